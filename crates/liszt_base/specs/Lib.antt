@@ -1,0 +1,2 @@
+pub mod MeshLists
+pub mod Numbers

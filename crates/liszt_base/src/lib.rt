@@ -1,0 +1,16 @@
+//! The types that every crate of Solgrinn shares: plain lists, points and cells, words, answers, the gate.
+#![tactic(auto)]
+
+mod answers;
+mod gate;
+mod mesh;
+mod plain_list;
+mod plain_number;
+mod word_list;
+
+pub use answers::{Input, MeshFile, NoMemory, Refused};
+pub use gate::{Gate, OpenGate};
+pub use mesh::{CellList, Point, PointList, PointTable, RawCell, RawMesh};
+pub use plain_list::{ByteList, PlainList};
+pub use plain_number::number_before;
+pub use word_list::WordList;

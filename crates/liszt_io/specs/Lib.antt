@@ -1,0 +1,7 @@
+pub mod Causes
+pub mod Shelves
+pub mod Sinks
+pub mod Whole
+pub mod Scripts
+pub mod Held
+pub mod InMemory

@@ -1,0 +1,2 @@
+pub mod PlainProgram
+pub mod PlainReading

@@ -1,0 +1,210 @@
+-- The steps by which the inputs are taken in, joined.
+use Rattle.std.proofs.Common.{◌≡◌, ℕ, ◌≤◌, inl, inr, List, [], ◌∷◌, length, Option, Some, None, MatchOption, MatchResult, Result, Ok, Err, ◌<◌, refl, sym, ap, subst, ◌∙◌, arith, ℤ, pos, ◌+ℤ◌, ◌≤ℤ◌, ◌<ℤ◌}
+use Rattle.std.proofs.lemmas.Int.{ints, to_z-of_z}
+use mir.Syntax.{w64}
+use mir.Val.{to_z, of_z}
+use Rattle.liszt_base.specs.declared.answers.Input.{Input}
+use Rattle.liszt_base.specs.declared.answers.Input.TheVariants.{Program, Node, Ele}
+use Rattle.liszt_base.specs.declared.mesh.PointTable.{PointTable}
+use Rattle.liszt_base.specs.MeshLists.{MeshLists}
+use Rattle.std.specs.Io.KnownBytes.{append_known}
+use Rattle.liszt_io.specs.declared.outside.WriteFault.{WriteFault as Unwritten}
+use Rattle.liszt_io.specs.Causes.{HasCause}
+use Rattle.liszt_io.specs.Sinks.{IsFrontTaken, Writes}
+use Rattle.liszt_io.specs.Shelves.{Files, Tally, FailsAt}
+use Rattle.liszt_parser.specs.declared.plain.Plain.{Plain}
+use Rattle.liszt_parser.specs.PlainProgram.{IsPlainProgram}
+use Rattle.tet_reader.specs.PlainMesh.{IsPlainNode, IsPlainMeshOver}
+use Rattle.liszt_run.specs.declared.ended.Ended.{Ended}
+use Rattle.liszt_run.specs.declared.ended.Ended.TheVariants.{Done, Usage, Later, ReadFault, WriteFault, NoMemory}
+use Rattle.liszt_run.specs.declared.inputs.Job.{Job}
+use Rattle.liszt_run.specs.Commands.{command_of, SeqCommand}
+use Rattle.liszt_run.specs.Endings.{refusal_text, done_text, field_text}
+use Rattle.liszt_run.specs.Expected.{Outcome, refusal, file_limit, IsOutside, TakesIn, Finishes, TakesCells, TakesPoints, Seq, ComesTo}
+use Rattle.liszt_run.specs.Answers.{IsLost, Answers, HasCauses, HasStepCause, StepGives, SpellsItself, Refuses, Prepares, job_text}
+
+-- From the bytes of an input to what they spell
+
+itself : (bytes : List ℕ) → IsOutside SpellsItself bytes → file_limit < length bytes
+itself bytes (inl long) = long
+itself bytes (inr none) = absurd (none bytes refl)
+
+pub step_refused : {A : Type 0} (files : Files) (input : Input) (name : List ℕ) (Spells : List ℕ → A → Type 0) (before now : Tally) (ended : Ended)
+    → StepGives files input name SpellsItself before now (Err ended) → StepGives files input name Spells before now (Err ended)
+step_refused files input name Spells before now (ReadFault x) h = h
+step_refused files input name Spells before now (Later x) h = (h.0, h.1, h.2, inl (itself h.1 h.3))
+step_refused files input name Spells before now NoMemory h = tt
+step_refused files input name Spells before now Usage h = h
+step_refused files input name Spells before now Done h = h
+step_refused files input name Spells before now WriteFault h = h
+
+pub step_spelled : {A : Type 0} (files : Files) (input : Input) (name : List ℕ) (Spells : List ℕ → A → Type 0) (before now : Tally) (bytes seen : List ℕ) (value : A)
+    → StepGives files input name SpellsItself before now (Ok bytes) → seen ≡ bytes → Spells seen value → StepGives files input name Spells before now (Ok value)
+step_spelled files input name Spells before now bytes seen value h is spells =
+    (h.0, h.1, (h.2.0, subst (λ (b : List ℕ). Spells b value) (is ∙ h.2.1) spells), h.3)
+
+pub step_outside : {A : Type 0} (files : Files) (input : Input) (name : List ℕ) (Spells : List ℕ → A → Type 0) (before now : Tally) (bytes seen : List ℕ)
+    → StepGives files input name SpellsItself before now (Ok bytes) → seen ≡ bytes → ((value : A) → Spells seen value → ⊥) → StepGives files input name Spells before now (Err (Later input))
+step_outside files input name Spells before now bytes seen h is none =
+    (refl, h.0, h.1, inr (λ value spells. none value (subst (λ (b : List ℕ). Spells b value) (sym (is ∙ h.2.1)) spells)))
+
+-- From the steps to the command
+
+taken_refused : {A : Type 0} (files : Files) (input : Input) (name : List ℕ) (Spells : List ℕ → A → Type 0) (GoesOn : A → Outcome → Type 0) (before now : Tally) (ended : Ended)
+    → StepGives files input name Spells before now (Err ended) → Refuses (TakesIn (IsLost files before now) files input name Spells GoesOn) ended
+taken_refused files input name Spells GoesOn before now (ReadFault x) h = inl (h.1, ap (λ i. refusal (ReadFault i)) h.0)
+taken_refused files input name Spells GoesOn before now (Later x) h = inr (inl (h.1, h.2, h.3, ap (λ i. refusal (Later i)) h.0))
+taken_refused files input name Spells GoesOn before now NoMemory h = tt
+taken_refused files input name Spells GoesOn before now Usage h = absurd h
+taken_refused files input name Spells GoesOn before now Done h = h
+taken_refused files input name Spells GoesOn before now WriteFault h = h
+
+-- the input is in its form, and what follows comes to the outcome
+taken_goes_on : {A : Type 0} (Lost : List ℕ → Type 0) (files : Files) (input : Input) (name : List ℕ) (Spells : List ℕ → A → Type 0) (GoesOn : A → Outcome → Type 0) (before now : Tally) (value : A) (outcome : Outcome)
+    → StepGives files input name Spells before now (Ok value) → GoesOn value outcome → TakesIn Lost files input name Spells GoesOn outcome
+taken_goes_on Lost files input name Spells GoesOn before now value outcome h rest = inr (inr (h.0, value, h.1, h.2, rest))
+
+refused_goes_on : (Comes Comes' : Outcome → Type 0) (ended : Ended) → ((outcome : Outcome) → Comes outcome → Comes' outcome) → Refuses Comes ended → Refuses Comes' ended
+refused_goes_on Comes Comes' (ReadFault x) more h = more (refusal (ReadFault x)) h
+refused_goes_on Comes Comes' (Later x) more h = more (refusal (Later x)) h
+refused_goes_on Comes Comes' Usage more h = more (refusal Usage) h
+refused_goes_on Comes Comes' NoMemory more h = tt
+refused_goes_on Comes Comes' Done more h = h
+refused_goes_on Comes Comes' WriteFault more h = h
+
+named : (Lost : List ℕ → Type 0) (words : List (List ℕ)) (files : Files) (c : SeqCommand) (outcome : Outcome) → command_of words ≡ Some c → Seq Lost files c outcome → ComesTo Lost words files outcome
+named Lost words files c outcome is h =
+    subst (λ (o : Option SeqCommand). MatchOption o (outcome ≡ refusal Usage) (λ d. Seq Lost files d outcome)) (sym is) h
+
+pub no_command : (Lost : List ℕ → Type 0) (words : List (List ℕ)) (files : Files) → command_of words ≡ None → ComesTo Lost words files (refusal Usage)
+no_command Lost words files is =
+    subst (λ (o : Option SeqCommand). MatchOption o (refusal Usage ≡ refusal Usage) (λ d. Seq Lost files d (refusal Usage))) (sym is) refl
+
+abbrev done_with : List ℕ → Outcome
+done_with text = record { ended = Done; text = text }
+
+pub program_refused : (words : List (List ℕ)) (files : Files) (c : SeqCommand) (before now : Tally) (ended : Ended) → command_of words ≡ Some c
+    → StepGives files Program c.program IsPlainProgram before now (Err ended) → Prepares words files before now (Err ended)
+program_refused words files c before now ended is first =
+    let Lost : List ℕ → Type 0 = IsLost files before now in
+    refused_goes_on (Seq Lost files c) (ComesTo Lost words files) ended (λ outcome. named Lost words files c outcome is)
+    (taken_refused files Program c.program IsPlainProgram (TakesPoints Lost files c) before now ended first)
+
+pub node_refused : (words : List (List ℕ)) (files : Files) (c : SeqCommand) (program : Plain) (before t now : Tally) (ended : Ended) → command_of words ≡ Some c
+    → StepGives files Program c.program IsPlainProgram before t (Ok program) → StepGives files Node c.node IsPlainNode t now (Err ended) → Prepares words files before now (Err ended)
+node_refused words files c program before t now ended is first second =
+    let Lost : List ℕ → Type 0 = IsLost files before now in
+    let second' = subst (λ (s : Tally). StepGives files Node c.node IsPlainNode s now (Err ended)) first.3 second in
+    refused_goes_on (TakesPoints Lost files c program) (ComesTo Lost words files) ended
+    (λ outcome h. named Lost words files c outcome is (taken_goes_on Lost files Program c.program IsPlainProgram (TakesPoints Lost files c) before t program outcome first h))
+    (taken_refused files Node c.node IsPlainNode (TakesCells Lost files c program) before now ended second')
+
+pub ele_refused : (words : List (List ℕ)) (files : Files) (c : SeqCommand) (program : Plain) (table : PointTable) (before t u now : Tally) (ended : Ended) → command_of words ≡ Some c
+    → StepGives files Program c.program IsPlainProgram before t (Ok program) → StepGives files Node c.node IsPlainNode t u (Ok table)
+    → StepGives files Ele c.ele (IsPlainMeshOver table) u now (Err ended) → Prepares words files before now (Err ended)
+ele_refused words files c program table before t u now ended is first second third =
+    let Lost : List ℕ → Type 0 = IsLost files before now in
+    let third' = subst (λ (s : Tally). StepGives files Ele c.ele (IsPlainMeshOver table) s now (Err ended)) (second.3 ∙ first.3) third in
+    refused_goes_on (TakesCells Lost files c program table) (ComesTo Lost words files) ended
+    (λ outcome h. named Lost words files c outcome is
+    (taken_goes_on Lost files Program c.program IsPlainProgram (TakesPoints Lost files c) before t program outcome first
+    (taken_goes_on Lost files Node c.node IsPlainNode (TakesCells Lost files c program) t u table outcome second h)))
+    (taken_refused files Ele c.ele (IsPlainMeshOver table) (Finishes program) before now ended third')
+
+pub all_taken : (words : List (List ℕ)) (files : Files) (c : SeqCommand) (program : Plain) (table : PointTable) (mesh : MeshLists) (job : Job) (before t u now : Tally) → command_of words ≡ Some c
+    → StepGives files Program c.program IsPlainProgram before t (Ok program) → StepGives files Node c.node IsPlainNode t u (Ok table)
+    → StepGives files Ele c.ele (IsPlainMeshOver table) u now (Ok mesh)
+    → job.name ≡ program.name → job.value ≡ program.first +ℤ program.add → job.mesh ≡ mesh → Prepares words files before now (Ok job)
+all_taken words files c program table mesh job before t u now is first second third name value same =
+    let Lost : List ℕ → Type 0 = IsLost files before now in
+    let text : job_text job ≡ done_text program mesh =
+    ap (λ (n : ℕ). field_text (n ∷ []) (λ _. job.value) (length job.mesh.cells)) name
+    ∙ ap (λ (v : ℤ). field_text (program.name ∷ []) (λ _. v) (length job.mesh.cells)) value
+    ∙ ap (λ (m : MeshLists). field_text (program.name ∷ []) (λ _. program.first +ℤ program.add) (length m.cells)) same in
+    let outcome : Outcome = record { ended = Done; text = job_text job } in
+    let finishes : Finishes program mesh outcome = ap done_with text in
+    named Lost words files c outcome is
+    (taken_goes_on Lost files Program c.program IsPlainProgram (TakesPoints Lost files c) before t program outcome first
+    (taken_goes_on Lost files Node c.node IsPlainNode (TakesCells Lost files c program) t u table outcome second
+    (taken_goes_on Lost files Ele c.ele (IsPlainMeshOver table) (Finishes program) u now mesh outcome third finishes)))
+
+-- a failed file is a lost one
+pub lost_at : (files : Files) (name : List ℕ) (before now : Tally) → FailsAt files name before now → IsLost files before now name
+lost_at files name before now (inl stray) = inl stray.0
+lost_at files name before now (inr other) = inr (other.1.others, other.1.last)
+
+-- a refusal that isn't Usage
+pub no_usage : {A B : Type 0} (ended : Ended) (result : Result A Ended) → result ≡ Err ended → (◌≡◌ {A = Result B Ended} (Err ended) (Err Usage) → ⊥) → result ≡ Err Usage → ⊥
+no_usage ended result is other usage = let same : ended ≡ Usage = cc in other (ap Err same)
+
+-- two numbers below 10^9 and their sum, as words of 64 bits
+word_of : (z : ℤ) → pos 0 ≤ℤ z → z <ℤ pos 2000000000 → to_z w64 (of_z w64 z) ≡ z
+word_of z low high = to_z-of_z w64 z (omega (arith, ints))
+
+pub value_is : (first add : ℤ) → (pos 0 ≤ℤ first) × (first <ℤ pos 1000000000) × (pos 0 ≤ℤ add) × (add <ℤ pos 1000000000)
+    → to_z w64 (of_z w64 (to_z w64 (of_z w64 first) +ℤ to_z w64 (of_z w64 add))) ≡ first +ℤ add
+value_is first add b =
+    let one = word_of first b.0 (omega (arith, ints)) in
+    let two = word_of add b.2 (omega (arith, ints)) in
+    rw (one, two) (word_of (first +ℤ add) (omega (arith, ints)) (omega (arith, ints)))
+
+-- From what is known before anything is written to the answer
+
+pub told_job : (words : List (List ℕ)) (files : Files) (before now : Tally) (old new : Option (List ℕ)) (job : Job) (written : Result Unit Unwritten) (ended : Ended)
+    → Prepares words files before now (Ok job) → Writes (job_text job) old new written → MatchResult written (λ _. ended ≡ Done) (λ _. ended ≡ WriteFault)
+    → Answers words files before now old new ended
+told_job words files before now old new job (Ok _) ended comes taken is = subst (Answers words files before now old new) (sym is) (job_text job, comes, taken)
+told_job words files before now old new job (Err _) ended comes front is =
+    subst (Answers words files before now old new) (sym is) (record { ended = Done; text = job_text job }, inl comes, front)
+
+-- a refusal whose line was written is the answer
+refused : (words : List (List ℕ)) (files : Files) (before now : Tally) (old new : Option (List ℕ)) (ended : Ended)
+    → Refuses (ComesTo (IsLost files before now) words files) ended → new ≡ append_known old (refusal_text ended) → Answers words files before now old new ended
+refused words files before now old new (ReadFault x) comes taken = (refusal_text (ReadFault x), comes, taken)
+refused words files before now old new (Later x) comes taken = (refusal_text (Later x), comes, taken)
+refused words files before now old new Usage comes taken = (refusal_text Usage, comes, taken)
+refused words files before now old new NoMemory comes taken = taken
+refused words files before now old new Done comes taken = absurd comes
+refused words files before now old new WriteFault comes taken = absurd comes
+
+-- and one whose line was not is what was being written
+unwritten : (words : List (List ℕ)) (files : Files) (before now : Tally) (old new : Option (List ℕ)) (ended : Ended)
+    → Refuses (ComesTo (IsLost files before now) words files) ended → IsFrontTaken old new (refusal_text ended) → Answers words files before now old new WriteFault
+unwritten words files before now old new (ReadFault x) comes front = (refusal (ReadFault x), inl comes, front)
+unwritten words files before now old new (Later x) comes front = (refusal (Later x), inl comes, front)
+unwritten words files before now old new Usage comes front = (refusal Usage, inl comes, front)
+unwritten words files before now old new NoMemory comes front = (refusal NoMemory, inr refl, front)
+unwritten words files before now old new Done comes front = absurd comes
+unwritten words files before now old new WriteFault comes front = absurd comes
+
+pub told_refusal : (words : List (List ℕ)) (files : Files) (before now : Tally) (old new : Option (List ℕ)) (refusal : Ended) (written : Result Unit Unwritten) (ended : Ended)
+    → Prepares words files before now (Err refusal) → Writes (refusal_text refusal) old new written → MatchResult written (λ _. ended ≡ refusal) (λ _. ended ≡ WriteFault)
+    → Answers words files before now old new ended
+told_refusal words files before now old new refusal (Ok _) ended comes taken is =
+    subst (Answers words files before now old new) (sym is) (refused words files before now old new refusal comes taken)
+told_refusal words files before now old new refusal (Err _) ended comes front is =
+    subst (Answers words files before now old new) (sym is) (unwritten words files before now old new refusal comes front)
+
+written_cause : (shelf shelf' sink sink' : ℕ) (refusal : Ended) → HasStepCause {A = Job} shelf shelf' (Err refusal) → sink' ≡ sink → HasCauses shelf shelf' sink sink' refusal
+written_cause shelf shelf' sink sink' (ReadFault x) first second = (first.0, first.1, second)
+written_cause shelf shelf' sink sink' (Later x) first second = (first, second)
+written_cause shelf shelf' sink sink' Usage first second = (first, second)
+written_cause shelf shelf' sink sink' NoMemory first second = (first, second)
+written_cause shelf shelf' sink sink' Done first second = absurd first
+written_cause shelf shelf' sink sink' WriteFault first second = absurd first
+
+not_fallen : (shelf shelf' : ℕ) (refusal : Ended) → HasStepCause {A = Job} shelf shelf' (Err refusal) → shelf ≤ shelf'
+not_fallen shelf shelf' (ReadFault x) first = first.0
+not_fallen shelf shelf' (Later x) first = omega (arith, first)
+not_fallen shelf shelf' Usage first = omega (arith, first)
+not_fallen shelf shelf' NoMemory first = omega (arith, first)
+not_fallen shelf shelf' Done first = absurd first
+not_fallen shelf shelf' WriteFault first = absurd first
+
+pub causes_of : (shelf shelf' sink sink' : ℕ) (refusal : Ended) (written : Result Unit Unwritten) (ended : Ended)
+    → HasStepCause {A = Job} shelf shelf' (Err refusal) → HasCause sink sink' written → MatchResult written (λ _. ended ≡ refusal) (λ _. ended ≡ WriteFault)
+    → HasCauses shelf shelf' sink sink' ended
+causes_of shelf shelf' sink sink' first_ended (Ok _) ended first second is =
+    subst (HasCauses shelf shelf' sink sink') (sym is) (written_cause shelf shelf' sink sink' first_ended first second.kept)
+causes_of shelf shelf' sink sink' first_ended (Err _) ended first second is =
+    subst (HasCauses shelf shelf' sink sink') (sym is) (not_fallen shelf shelf' first_ended first, second.later, second.failed)

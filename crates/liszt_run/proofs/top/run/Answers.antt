@@ -1,0 +1,17 @@
+use Rattle.liszt_run.proofs.Steps.{told_job, told_refusal, causes_of}
+use Rattle.liszt_run.proofs.top.run.Goals as goal
+
+pub returns-in-Ok-clause-told : goal.returns-in-Ok-clause-told
+returns-in-Ok-clause-told g c files h =
+    told_job c.args.words.now files (g.F.Shelf.tally c.args.shelf.now) (g.F.Shelf.tally c.prepare.new.shelf) (g.S.Sink.taken c.args.out.now) (g.S.Sink.taken c.write_job.new.out)
+    c.in-Ok.job c.write_job.result c.ended_by.result (c.in-Ok.ensures.told files h) c.write_job.ensures.writes c.ended_by.ensures
+
+pub returns-in-Err-clause-told : goal.returns-in-Err-clause-told
+returns-in-Err-clause-told g c files h =
+    told_refusal c.args.words.now files (g.F.Shelf.tally c.args.shelf.now) (g.F.Shelf.tally c.prepare.new.shelf) (g.S.Sink.taken c.args.out.now) (g.S.Sink.taken c.write_refusal.new.out)
+    c.in-Err.refusal c.write_refusal.result c.ended_by-in-Err.result (c.in-Err.ensures.told files h) c.write_refusal.ensures.writes c.ended_by-in-Err.ensures
+
+pub returns-in-Err-clause-causes : goal.returns-in-Err-clause-causes
+returns-in-Err-clause-causes g c =
+    causes_of (g.F.Shelf.faults c.args.shelf.now) (g.F.Shelf.faults c.prepare.new.shelf) (g.S.Sink.faults c.args.out.now) (g.S.Sink.faults c.write_refusal.new.out)
+    c.in-Err.refusal c.write_refusal.result c.ended_by-in-Err.result c.in-Err.ensures.cause c.write_refusal.ensures.cause c.ended_by-in-Err.ensures

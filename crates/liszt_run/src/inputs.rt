@@ -1,0 +1,120 @@
+ghost use Rattle.std.specs.Prelude.{◌≡◌, ℕ, ◌≤ℤ◌, ◌<ℤ◌, pos, Some, None, Ok, Err, IfOk};
+ghost use Rattle.liszt_base.specs.declared.answers.Input.TheVariants.{Program, Node, Ele};
+ghost use Rattle.liszt_io.specs.Shelves.{Files};
+ghost use Rattle.liszt_parser.specs.PlainProgram.{IsPlainProgram};
+ghost use Rattle.tet_reader.specs.PlainMesh.{IsPlainNode, IsPlainMeshOver};
+ghost use Rattle.liszt_run.specs.declared.ended.Ended.TheVariants.{Usage};
+ghost use Rattle.liszt_run.specs.Commands.{command_of};
+ghost use Rattle.liszt_run.specs.Answers.{HasStepCause, StepGives, SpellsItself, Prepares};
+
+use crate::command::command_of;
+use crate::ended::Ended;
+use liszt_base::{ByteList, Input, PointTable, RawMesh, Refused, WordList};
+use liszt_io::{Shelf, WholeFault, read_whole};
+use liszt_parser::{Plain, read_plain};
+use std::alloc::Global;
+use tet_reader::{read_plain_cells, read_plain_points};
+
+/// No file may have more bytes.
+const FILE_LIMIT: usize = 67_108_864;
+
+/// A run that is ready: the field's name, the number of each cell, and the mesh.
+#[derive(Drop)]
+pub struct Job {
+    pub name: u8,
+    pub value: i64,
+    pub mesh: RawMesh,
+}
+
+/// Takes in the three files that the words name, in their order. An `Err` is the ending that their first fault leads to.
+pub fn prepare<F: Shelf>(alloc: Global, words: &WordList, shelf: &mut F) -> Result<Job, Ended>
+    ensures held { F.held shelf.new ≡ F.held shelf.old }
+    ensures cause { HasStepCause (F.faults shelf.old) (F.faults shelf.new) result }
+    ensures usage { command_of words.now ≡ None → (result ≡ Err Usage) × (shelf.new ≡ shelf.old) }
+    ensures only { result ≡ Err Usage → command_of words.now ≡ None }
+    ensures told { (files : Files) → F.held shelf.old ≡ Some files
+        → Prepares words.now files (F.tally shelf.old) (F.tally shelf.new) result }
+{
+    let Some(command) = command_of(words) else {
+        return Err(Ended::Usage);
+    };
+    let program = take_program(alloc, shelf, command.program)?;
+    let points = take_points(alloc, shelf, command.node)?;
+    let mesh = take_cells(alloc, shelf, command.ele, points)?;
+    Ok(Job {
+        name: program.name,
+        value: program.first + program.add,
+        mesh,
+    })
+}
+
+fn take_program<F: Shelf>(alloc: Global, shelf: &mut F, name: &str) -> Result<Plain, Ended>
+    ensures held { F.held shelf.new ≡ F.held shelf.old }
+    ensures cause { HasStepCause (F.faults shelf.old) (F.faults shelf.new) result }
+    ensures other { result ≡ Err Usage → ⊥ }
+    ensures told { (files : Files) → F.held shelf.old ≡ Some files
+        → StepGives files Program name.now IsPlainProgram (F.tally shelf.old) (F.tally shelf.new) result }
+    ensures bound { IfOk result (λ p. (pos 0 ≤ℤ p.first) × (p.first <ℤ pos 1000000000) × (pos 0 ≤ℤ p.add) × (p.add <ℤ pos 1000000000)) }
+{
+    let bytes = take_bytes(alloc, shelf, name, Input::Program)?;
+    match read_plain(bytes.as_slice()) {
+        Some(program) => Ok(program),
+        None => Err(Ended::Later(Input::Program)),
+    }
+}
+
+fn take_points<F: Shelf>(alloc: Global, shelf: &mut F, name: &str) -> Result<PointTable, Ended>
+    ensures held { F.held shelf.new ≡ F.held shelf.old }
+    ensures cause { HasStepCause (F.faults shelf.old) (F.faults shelf.new) result }
+    ensures other { result ≡ Err Usage → ⊥ }
+    ensures told { (files : Files) → F.held shelf.old ≡ Some files
+        → StepGives files Node name.now IsPlainNode (F.tally shelf.old) (F.tally shelf.new) result }
+{
+    let bytes = take_bytes(alloc, shelf, name, Input::Node)?;
+    match read_plain_points(alloc, bytes.as_slice()) {
+        Ok(points) => Ok(points),
+        Err(Refused::Fault(_)) => Err(Ended::Later(Input::Node)),
+        Err(Refused::NoMemory) => Err(Ended::NoMemory),
+    }
+}
+
+fn take_cells<F: Shelf>(
+    alloc: Global,
+    shelf: &mut F,
+    name: &str,
+    points: PointTable,
+) -> Result<RawMesh, Ended>
+    ensures held { F.held shelf.new ≡ F.held shelf.old }
+    ensures cause { HasStepCause (F.faults shelf.old) (F.faults shelf.new) result }
+    ensures other { result ≡ Err Usage → ⊥ }
+    ensures told { (files : Files) → F.held shelf.old ≡ Some files
+        → StepGives files Ele name.now (IsPlainMeshOver points) (F.tally shelf.old) (F.tally shelf.new) result }
+{
+    let bytes = take_bytes(alloc, shelf, name, Input::Ele)?;
+    match read_plain_cells(alloc, bytes.as_slice(), points) {
+        Ok(mesh) => Ok(mesh),
+        Err(Refused::Fault(_)) => Err(Ended::Later(Input::Ele)),
+        Err(Refused::NoMemory) => Err(Ended::NoMemory),
+    }
+}
+
+/// The bytes of an input.
+fn take_bytes<F: Shelf>(
+    alloc: Global,
+    shelf: &mut F,
+    name: &str,
+    input: Input,
+) -> Result<ByteList, Ended>
+    ensures held { F.held shelf.new ≡ F.held shelf.old }
+    ensures cause { HasStepCause (F.faults shelf.old) (F.faults shelf.new) result }
+    ensures other { result ≡ Err Usage → ⊥ }
+    ensures told { (files : Files) → F.held shelf.old ≡ Some files
+        → StepGives files input name.now SpellsItself (F.tally shelf.old) (F.tally shelf.new) result }
+{
+    match read_whole(alloc, shelf, name, FILE_LIMIT) {
+        Ok(bytes) => Ok(bytes),
+        Err(WholeFault::ReadFault) => Err(Ended::ReadFault(input)),
+        Err(WholeFault::TooLong) => Err(Ended::Later(input)),
+        Err(WholeFault::NoMemory) => Err(Ended::NoMemory),
+    }
+}

@@ -1,0 +1,68 @@
+ghost use Rattle.std.specs.Prelude.{◌≡◌, ◌+◌, ◌≤◌, [], ◌++◌, length};
+ghost use Rattle.std.specs.Fmt.{signed_decimal};
+
+use itoa::Buffer;
+use std::marker::Model;
+
+/// A line of at most 256 bytes. Contracts see its bytes.
+#[derive(Drop)]
+pub struct LineBuf {
+    room: [u8; 256],
+    count: usize,
+}
+
+impl Model for LineBuf {
+    ghost use Rattle.std.specs.Prelude.{List, ℕ, ◌≤◌, take};
+
+    ghost Value = { List ℕ };
+
+    ghost view = { λ a. take a.count a.room };
+
+    ghost invariant = { λ a. a.count ≤ 256 };
+}
+
+impl LineBuf {
+    /// An empty line.
+    pub fn new() -> LineBuf
+        ensures { result ≡ [] }
+    {
+        LineBuf {
+            room: [0; 256],
+            count: 0,
+        }
+    }
+
+    /// Adds a text.
+    pub fn text(&mut self, piece: &[u8])
+        requires { length self.old + length piece.now ≤ 256 }
+        ensures { self.new ≡ self.old ++ piece.now }
+    {
+        let end = self.count + piece.len();
+        self.room[self.count..end].copy_from_slice(piece);
+        self.count = end;
+    }
+
+    /// Adds a number, in at most 40 bytes.
+    pub fn number(&mut self, number: i64)
+        requires { length self.old + 40 ≤ 256 }
+        ensures bytes { self.new ≡ self.old ++ signed_decimal number }
+        ensures short { length self.new ≤ length self.old + 40 }
+    {
+        let mut buffer = Buffer::new();
+        self.text(buffer.format(number).as_bytes());
+    }
+
+    /// The bytes.
+    pub fn bytes(&self) -> &[u8]
+        ensures { result.now ≡ self.now }
+    {
+        &self.room[..self.count]
+    }
+
+    /// Empties the line.
+    pub fn clear(&mut self)
+        ensures { self.new ≡ [] }
+    {
+        self.count = 0;
+    }
+}

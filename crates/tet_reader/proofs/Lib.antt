@@ -1,0 +1,3 @@
+pub mod Loop
+pub mod PlainLaws
+pub mod Rows
