@@ -1,2 +1,3 @@
 pub mod MeshLists
 pub mod Numbers
+pub mod Pieces

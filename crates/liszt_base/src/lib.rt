@@ -5,12 +5,12 @@ mod answers;
 mod gate;
 mod mesh;
 mod plain_list;
-mod plain_number;
+mod plain_text;
 mod word_list;
 
 pub use answers::{Input, MeshFile, NoMemory, Refused};
 pub use gate::{Gate, OpenGate};
 pub use mesh::{CellList, Point, PointList, PointTable, RawCell, RawMesh};
 pub use plain_list::{ByteList, PlainList};
-pub use plain_number::number_before;
+pub use plain_text::{number_before, rest_after};
 pub use word_list::WordList;

@@ -53,11 +53,12 @@ pub record IsPiece (bytes : List ℕ) (place count : ℕ) (buffer : List ℕ) : 
   pub piece : take count buffer ≡ take count (drop place bytes)
   pub ends : count ≡ 0 → 0 < length buffer → place ≡ length bytes
 
--- what `read` does where a name is picked: it gives the next bytes and moves past them, or leaves name and place
+-- What `read` does where a name is picked: it gives the next bytes and moves past them, or leaves name and place. It
+-- doesn't fail for an empty buffer.
 abbrev pub Reads : List ℕ → List ℕ → ℕ → Result ℕ Failed → List ℕ → Option Picked → Tally → Tally → Type 0
 Reads name bytes place (Ok count) buffer picked before now =
     IsPiece bytes place count buffer × (picked ≡ Some (name, place + count)) × (now ≡ before)
-Reads name bytes place (Err _) buffer picked before now = (picked ≡ Some (name, place)) × IsFaultAt name before now
+Reads name bytes place (Err _) buffer picked before now = (picked ≡ Some (name, place)) × IsFaultAt name before now × (0 < length buffer)
 
 -- and where none is picked: a stray
 abbrev pub ReadsNothing : Result ℕ Failed → Option Picked → Tally → Tally → Type 0

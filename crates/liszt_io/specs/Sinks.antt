@@ -10,10 +10,10 @@ pub record IsTaken (before now : Option (List ℕ)) (piece : List ℕ) (count : 
   pub some : 0 < length piece → 0 < count
   pub taken : now ≡ append_known before (take count piece)
 
--- what `write` does: a failed call takes nothing
+-- what `write` does: a failed call takes nothing, and an empty piece fails none
 abbrev pub Takes : Option (List ℕ) → Option (List ℕ) → List ℕ → Result ℕ Failed → Type 0
 Takes before now piece (Ok count) = IsTaken before now piece count
-Takes before now piece (Err _) = now ≡ before
+Takes before now piece (Err _) = (now ≡ before) × (0 < length piece)
 
 -- a front of the text was taken
 pub record IsFrontTaken (before now : Option (List ℕ)) (text : List ℕ) : Type 0 where

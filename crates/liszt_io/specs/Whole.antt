@@ -7,7 +7,7 @@ use Rattle.liszt_io.specs.Shelves.{Files, file, Tally, FailsAt}
 
 -- the answer and the shelf's count: a ReadFault alone comes of a fault
 abbrev pub HasWholeCause : ℕ → ℕ → Result (List ℕ) WholeFault → Type 0
-HasWholeCause before now (Err ReadFault) = (before ≤ now) × Rose before now
+HasWholeCause before now (Err ReadFault) = Rose before now
 HasWholeCause before now (Err TooLong) = now ≡ before
 HasWholeCause before now (Err NoMemory) = now ≡ before
 HasWholeCause before now (Ok _) = now ≡ before

@@ -5,8 +5,8 @@ use std::fs;
 use std::io::{ErrorKind, Read, Write};
 use std::rt::Files;
 
-/// How often an interrupted call is tried again.
-const TRIES: u32 = 1000;
+/// How often a call is tried: once, and a thousand times again where it was interrupted.
+const TRIES: u32 = 1001;
 
 /// The files of the system, by name. It tells no bytes.
 #[derive(Drop)]
@@ -18,7 +18,9 @@ pub struct HostShelf<'a, R: Files> {
 
 impl<'a, R: Files> HostShelf<'a, R> {
     /// A shelf with nothing picked.
-    pub fn new(rt: &'a R) -> Self {
+    pub fn new(rt: &'a R) -> Self
+        ensures { result.faults ≡ 0 }
+    {
         HostShelf {
             rt,
             file: None,
@@ -54,6 +56,9 @@ impl<R: Files> Shelf for HostShelf<'_, R> {
 
     fn read(&mut self, buf: &mut [u8]) -> Result<usize, Failed> {
         if let Some(file) = &mut self.file {
+            if buf.is_empty() {
+                return Ok(0);
+            }
             for _ in 0..TRIES {
                 match file.read(buf) {
                     Ok(count) => return Ok(count),
@@ -76,7 +81,9 @@ pub struct HostSink<W: Write + Drop> {
 
 impl<W: Write + Drop> HostSink<W> {
     /// A sink that hands on to this writer.
-    pub fn new(inner: W) -> Self {
+    pub fn new(inner: W) -> Self
+        ensures { result.faults ≡ 0 }
+    {
         HostSink { inner, faults: 0 }
     }
 }
@@ -87,9 +94,12 @@ impl<W: Write + Drop> Sink for HostSink<W> {
     ghost faults = { λ s. s.faults };
 
     fn write(&mut self, piece: &[u8]) -> Result<usize, Failed> {
+        if piece.is_empty() {
+            return Ok(0);
+        }
         for _ in 0..TRIES {
             match self.inner.write(piece) {
-                Ok(0) if !piece.is_empty() => break,
+                Ok(0) => break,
                 Ok(count) => return Ok(count),
                 Err(e) if e.kind() == ErrorKind::Interrupted => {}
                 Err(_) => break,

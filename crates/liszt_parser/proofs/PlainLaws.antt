@@ -1,17 +1,15 @@
 -- The reading function reads what is spelled, and nothing else.
-use Rattle.std.proofs.Common.{◌≡◌, ◌≢◌, ℕ, ◌+◌, ◌<◌, ◌≤◌, ◌&&◌, ◌⊎◌, inl, inr, ◌==◌, ℤ, pos, ◌≤ℤ◌, ◌<ℤ◌, cond, Bool, true, false, List, [], ◌∷◌, ◌++◌, length, take, drop, codes, Bor, Option, Some, None, IfSome, IfNone, MatchOption, refl, sym, ap, subst, ◌∙◌, rules, arith, append_assoc}
-use Rattle.std.specs.Option.{option_map}
+use Rattle.std.proofs.Common.{◌≡◌, ℕ, ◌<◌, ◌≤◌, ◌&&◌, ◌⊎◌, inl, inr, ◌==◌, ℤ, pos, ◌≤ℤ◌, ◌<ℤ◌, cond, Bool, true, false, List, [], ◌∷◌, ◌++◌, codes, Option, Some, None, IfSome, IfNone, refl, sym, ap, subst, ◌∙◌, rules, arith, append_assoc}
 use Rattle.std.specs.Char.{is_ascii_uppercase, digit_value}
-use Rattle.std.specs.Cmp.Lexicographic.{pointwise}
-use Rattle.std.proofs.Math.Dec.{eqb}
-use Rattle.std.proofs.lemmas.Bool.Decides.{nat_tests, Decides-eqb}
+use Rattle.std.proofs.lemmas.Bool.Decides.{nat_tests}
 use Rattle.std.proofs.lemmas.Int.{ints}
-use Rattle.std.proofs.lemmas.Slice.Eq.{strip_prefix_is}
 use Rattle.liszt_base.specs.Numbers.{IsNumber, number_at}
+use Rattle.liszt_base.specs.Pieces.{◌>>=◌, after}
+use Rattle.liszt_base.proofs.Pieces.{after_takes}
 use Rattle.liszt_base.proofs.Numbers.{taken_number, again_number, number_small}
 use Rattle.liszt_parser.specs.declared.plain.Plain.{Plain}
 use Rattle.liszt_parser.specs.PlainProgram.{IsPlainProgram, program_lines}
-use Rattle.liszt_parser.specs.PlainReading.{◌>>=◌, after, letter_at, at_end, plain_at, plain_of}
+use Rattle.liszt_parser.specs.PlainReading.{letter_at, at_end, plain_at, plain_of}
 
 -- Tests
 
@@ -43,39 +41,6 @@ bind_then (Some x) f y e k = k x refl e
 
 bind_again : {A B : Type 0} (o : Option A) (x : A) (f : A → Option B) (y : Option B) → o ≡ Some x → f x ≡ y → (o >>= f) ≡ y
 bind_again o x f y e h = rw e h
-
--- Pieces
-
-after_step : (p b : ℕ) (piece text rest : List ℕ) (same : Bool) → (p == b) ≡ same → (after piece text ≡ Some rest → text ≡ piece ++ rest)
-    → cond same (after piece text) None ≡ Some rest → b ∷ text ≡ p ∷ (piece ++ rest)
-after_step p b piece text rest true is more e =
-    let eq : p ≡ b = same_is p b is in
-    cc (more e)
-after_step p b piece text rest false is more e = cc
-
-after_takes : (piece text rest : List ℕ) → after piece text ≡ Some rest → text ≡ piece ++ rest
-after_takes [] text rest e = cc
-after_takes (p ∷ piece) [] rest e = cc
-after_takes (p ∷ piece) (b ∷ text) rest e = after_step p b piece text rest (p == b) refl (after_takes piece text rest) e
-
-after_again : (piece rest : List ℕ) → after piece (piece ++ rest) ≡ Some rest
-after_again [] rest = refl
-after_again (p ∷ piece) rest = rw (same_self p) (after_again piece rest)
-
-after_none : (piece text : List ℕ) (r : Option (List ℕ)) → ((rest : List ℕ) → text ≢ piece ++ rest) → after piece text ≡ r → None ≡ r
-after_none piece text None never e = refl
-after_none piece text (Some rest) never e = absurd (never rest (after_takes piece text rest e))
-
-after_stripped : (piece text : List ℕ) (r : Option (Bor (List ℕ))) → MatchOption r ((rest : List ℕ) → text ≢ piece ++ rest) (λ x. text ≡ piece ++ x.now)
-    → option_map (λ x. x.now) r ≡ after piece text
-after_stripped piece text None never = after_none piece text (after piece text) never refl
-after_stripped piece text (Some x) e = rw e (sym (after_again piece x.now))
-
--- what strip_prefix says, as the reading function has it
-pub after_is : (piece text : List ℕ) (r : Option (Bor (List ℕ)))
-    → MatchOption r (pointwise eqb (take (length piece) text) piece ≡ false) (λ x. (pointwise eqb (take (length piece) text) piece ≡ true) × (x.now ≡ drop (length piece) text) × (length x.now + length piece ≡ length text))
-    → option_map (λ x. x.now) r ≡ after piece text
-after_is piece text r cases = after_stripped piece text r (strip_prefix_is Decides-eqb text piece r cases)
 
 -- Letters
 

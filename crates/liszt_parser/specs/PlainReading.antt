@@ -2,18 +2,8 @@
 use Rattle.std.specs.Prelude.{ℕ, ◌==◌, ◌&&◌, if◌then◌else◌, Bool, true, false, Option, Some, None, List, [], ◌∷◌, pos, codes}
 use Rattle.std.specs.Char.{is_ascii_uppercase}
 use Rattle.liszt_base.specs.Numbers.{number_at}
+use Rattle.liszt_base.specs.Pieces.{◌>>=◌, after}
 use Rattle.liszt_parser.specs.declared.plain.Plain.{Plain}
-
-infixl 10 ◌>>=◌
-abbrev pub ◌>>=◌ : {A B : Type 0} → Option A → (A → Option B) → Option B
-None >>= f = None
-(Some x) >>= f = f x
-
--- what follows the piece, where the text begins with it
-abbrev pub after : List ℕ → List ℕ → Option (List ℕ)
-after [] text = Some text
-after (p ∷ piece) [] = None
-after (p ∷ piece) (b ∷ text) = if p == b then after piece text else None
 
 -- the letter at the front, and what follows it
 abbrev pub letter_at : List ℕ → Option (ℕ × List ℕ)

@@ -1,9 +1,9 @@
 ghost use Rattle.std.specs.Prelude.{◌≡◌, ℕ, pos, ◌≤ℤ◌, ◌<ℤ◌, IfSome, IfNone};
 ghost use Rattle.std.specs.Option.{option_map};
 ghost use Rattle.liszt_parser.specs.PlainProgram.{IsPlainProgram};
-ghost use Rattle.liszt_parser.specs.PlainReading.{after, at_end, letter_at, plain_at, plain_of};
+ghost use Rattle.liszt_parser.specs.PlainReading.{at_end, letter_at, plain_at, plain_of};
 
-use liszt_base::number_before;
+use liszt_base::{number_before, rest_after};
 
 /// A program of the plain form: the field `name` on cells begins as `first`, and one loop adds `add` to it at each cell.
 #[derive(Clone, Copy, Debug, PartialEq, Eq)]
@@ -61,13 +61,6 @@ fn is_end(text: &[u8]) -> bool
     ensures { result ≡ at_end text.now }
 {
     matches!(text, [] | [b'\n'])
-}
-
-// What follows `piece` at the front of `text`.
-fn rest_after<'a>(text: &'a [u8], piece: &[u8]) -> Option<&'a [u8]>
-    ensures { option_map (λ x. x.now) result ≡ after piece.now text.now }
-{
-    text.strip_prefix(piece)
 }
 
 // The letter from A to Z at the front of `text`, and what follows it.

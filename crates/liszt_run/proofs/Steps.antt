@@ -1,5 +1,5 @@
 -- The steps by which the inputs are taken in, joined.
-use Rattle.std.proofs.Common.{◌≡◌, ℕ, ◌≤◌, inl, inr, List, [], ◌∷◌, length, Option, Some, None, MatchOption, MatchResult, Result, Ok, Err, ◌<◌, refl, sym, ap, subst, ◌∙◌, arith, ℤ, pos, ◌+ℤ◌, ◌≤ℤ◌, ◌<ℤ◌}
+use Rattle.std.proofs.Common.{◌≡◌, ℕ, ◌≤◌, inl, inr, List, [], ◌∷◌, length, Option, Some, None, MatchOption, MatchResult, Result, Ok, Err, ◌<◌, refl, sym, ap, subst, ◌∙◌, arith, ℤ, pos, ◌+ℤ◌, ◌≤ℤ◌, ◌<ℤ◌, ◌⊎◌}
 use Rattle.std.proofs.lemmas.Int.{ints, to_z-of_z}
 use mir.Syntax.{w64}
 use mir.Val.{to_z, of_z}
@@ -21,7 +21,7 @@ use Rattle.liszt_run.specs.declared.inputs.Job.{Job}
 use Rattle.liszt_run.specs.Commands.{command_of, SeqCommand}
 use Rattle.liszt_run.specs.Endings.{refusal_text, done_text, field_text}
 use Rattle.liszt_run.specs.Expected.{Outcome, refusal, file_limit, IsOutside, TakesIn, Finishes, TakesCells, TakesPoints, Seq, ComesTo}
-use Rattle.liszt_run.specs.Answers.{IsLost, Answers, HasCauses, HasStepCause, StepGives, SpellsItself, Refuses, Prepares, job_text}
+use Rattle.liszt_run.specs.Answers.{IsLost, Answers, Wrote, HasCauses, HasStepCause, StepGives, SpellsItself, Refuses, Prepares, job_text}
 
 -- From the bytes of an input to what they spell
 
@@ -111,16 +111,21 @@ ele_refused words files c program table before t u now ended is first second thi
     (taken_goes_on Lost files Node c.node IsPlainNode (TakesCells Lost files c program) t u table outcome second h)))
     (taken_refused files Ele c.ele (IsPlainMeshOver table) (Finishes program) before now ended third')
 
+-- the lines of a job are the text of its program on its mesh
+pub job_text_is : (program : Plain) (mesh : MeshLists) (job : Job) → job.name ≡ program.name → job.value ≡ program.first +ℤ program.add → job.mesh ≡ mesh
+    → job_text job ≡ done_text program mesh
+job_text_is program mesh job name value same =
+    ap (λ (n : ℕ). field_text (n ∷ []) (λ _. job.value) (length job.mesh.cells)) name
+    ∙ ap (λ (v : ℤ). field_text (program.name ∷ []) (λ _. v) (length job.mesh.cells)) value
+    ∙ ap (λ (m : MeshLists). field_text (program.name ∷ []) (λ _. program.first +ℤ program.add) (length m.cells)) same
+
 pub all_taken : (words : List (List ℕ)) (files : Files) (c : SeqCommand) (program : Plain) (table : PointTable) (mesh : MeshLists) (job : Job) (before t u now : Tally) → command_of words ≡ Some c
     → StepGives files Program c.program IsPlainProgram before t (Ok program) → StepGives files Node c.node IsPlainNode t u (Ok table)
     → StepGives files Ele c.ele (IsPlainMeshOver table) u now (Ok mesh)
     → job.name ≡ program.name → job.value ≡ program.first +ℤ program.add → job.mesh ≡ mesh → Prepares words files before now (Ok job)
 all_taken words files c program table mesh job before t u now is first second third name value same =
     let Lost : List ℕ → Type 0 = IsLost files before now in
-    let text : job_text job ≡ done_text program mesh =
-    ap (λ (n : ℕ). field_text (n ∷ []) (λ _. job.value) (length job.mesh.cells)) name
-    ∙ ap (λ (v : ℤ). field_text (program.name ∷ []) (λ _. v) (length job.mesh.cells)) value
-    ∙ ap (λ (m : MeshLists). field_text (program.name ∷ []) (λ _. program.first +ℤ program.add) (length m.cells)) same in
+    let text = job_text_is program mesh job name value same in
     let outcome : Outcome = record { ended = Done; text = job_text job } in
     let finishes : Finishes program mesh outcome = ap done_with text in
     named Lost words files c outcome is
@@ -150,43 +155,79 @@ value_is first add b =
 
 -- From what is known before anything is written to the answer
 
-pub told_job : (words : List (List ℕ)) (files : Files) (before now : Tally) (old new : Option (List ℕ)) (job : Job) (written : Result Unit Unwritten) (ended : Ended)
-    → Prepares words files before now (Ok job) → Writes (job_text job) old new written → MatchResult written (λ _. ended ≡ Done) (λ _. ended ≡ WriteFault)
-    → Answers words files before now old new ended
-told_job words files before now old new job (Ok _) ended comes taken is = subst (Answers words files before now old new) (sym is) (job_text job, comes, taken)
-told_job words files before now old new job (Err _) ended comes front is =
-    subst (Answers words files before now old new) (sym is) (record { ended = Done; text = job_text job }, inl comes, front)
+pub told_job : (words : List (List ℕ)) (files : Files) (before now : Tally) (shelf shelf' : ℕ) (old new : Option (List ℕ)) (job : Job) (written : Result Unit Unwritten) (ended : Ended)
+    → Prepares words files before now (Ok job) → shelf' ≡ shelf → Writes (job_text job) old new written → MatchResult written (λ _. ended ≡ Done) (λ _. ended ≡ WriteFault)
+    → Answers words files before now shelf shelf' old new ended
+told_job words files before now shelf shelf' old new job (Ok _) ended comes same taken is =
+    subst (Answers words files before now shelf shelf' old new) (sym is) (job_text job, comes, taken)
+told_job words files before now shelf shelf' old new job (Err _) ended comes same front is =
+    subst (Answers words files before now shelf shelf' old new) (sym is) (record { ended = Done; text = job_text job }, inl comes, front, same)
 
 -- a refusal whose line was written is the answer
-refused : (words : List (List ℕ)) (files : Files) (before now : Tally) (old new : Option (List ℕ)) (ended : Ended)
-    → Refuses (ComesTo (IsLost files before now) words files) ended → new ≡ append_known old (refusal_text ended) → Answers words files before now old new ended
-refused words files before now old new (ReadFault x) comes taken = (refusal_text (ReadFault x), comes, taken)
-refused words files before now old new (Later x) comes taken = (refusal_text (Later x), comes, taken)
-refused words files before now old new Usage comes taken = (refusal_text Usage, comes, taken)
-refused words files before now old new NoMemory comes taken = taken
-refused words files before now old new Done comes taken = absurd comes
-refused words files before now old new WriteFault comes taken = absurd comes
+refused : (words : List (List ℕ)) (files : Files) (before now : Tally) (shelf shelf' : ℕ) (old new : Option (List ℕ)) (ended : Ended)
+    → Refuses (ComesTo (IsLost files before now) words files) ended → new ≡ append_known old (refusal_text ended) → Answers words files before now shelf shelf' old new ended
+refused words files before now shelf shelf' old new (ReadFault x) comes taken = (refusal_text (ReadFault x), comes, taken)
+refused words files before now shelf shelf' old new (Later x) comes taken = (refusal_text (Later x), comes, taken)
+refused words files before now shelf shelf' old new Usage comes taken = (refusal_text Usage, comes, taken)
+refused words files before now shelf shelf' old new NoMemory comes taken = taken
+refused words files before now shelf shelf' old new Done comes taken = absurd comes
+refused words files before now shelf shelf' old new WriteFault comes taken = absurd comes
 
 -- and one whose line was not is what was being written
-unwritten : (words : List (List ℕ)) (files : Files) (before now : Tally) (old new : Option (List ℕ)) (ended : Ended)
-    → Refuses (ComesTo (IsLost files before now) words files) ended → IsFrontTaken old new (refusal_text ended) → Answers words files before now old new WriteFault
-unwritten words files before now old new (ReadFault x) comes front = (refusal (ReadFault x), inl comes, front)
-unwritten words files before now old new (Later x) comes front = (refusal (Later x), inl comes, front)
-unwritten words files before now old new Usage comes front = (refusal Usage, inl comes, front)
-unwritten words files before now old new NoMemory comes front = (refusal NoMemory, inr refl, front)
-unwritten words files before now old new Done comes front = absurd comes
-unwritten words files before now old new WriteFault comes front = absurd comes
+unwritten : (words : List (List ℕ)) (files : Files) (before now : Tally) (shelf shelf' : ℕ) (old new : Option (List ℕ)) (ended : Ended)
+    → Refuses (ComesTo (IsLost files before now) words files) ended → HasStepCause {A = Job} shelf shelf' (Err ended) → IsFrontTaken old new (refusal_text ended)
+    → Answers words files before now shelf shelf' old new WriteFault
+unwritten words files before now shelf shelf' old new (ReadFault x) comes cause front = (refusal (ReadFault x), inl comes, front, cause)
+unwritten words files before now shelf shelf' old new (Later x) comes cause front = (refusal (Later x), inl comes, front, cause)
+unwritten words files before now shelf shelf' old new Usage comes cause front = (refusal Usage, inl comes, front, cause)
+unwritten words files before now shelf shelf' old new NoMemory comes cause front = (refusal NoMemory, inr refl, front, cause)
+unwritten words files before now shelf shelf' old new Done comes cause front = absurd comes
+unwritten words files before now shelf shelf' old new WriteFault comes cause front = absurd comes
 
-pub told_refusal : (words : List (List ℕ)) (files : Files) (before now : Tally) (old new : Option (List ℕ)) (refusal : Ended) (written : Result Unit Unwritten) (ended : Ended)
-    → Prepares words files before now (Err refusal) → Writes (refusal_text refusal) old new written → MatchResult written (λ _. ended ≡ refusal) (λ _. ended ≡ WriteFault)
-    → Answers words files before now old new ended
-told_refusal words files before now old new refusal (Ok _) ended comes taken is =
-    subst (Answers words files before now old new) (sym is) (refused words files before now old new refusal comes taken)
-told_refusal words files before now old new refusal (Err _) ended comes front is =
-    subst (Answers words files before now old new) (sym is) (unwritten words files before now old new refusal comes front)
+pub told_refusal : (words : List (List ℕ)) (files : Files) (before now : Tally) (shelf shelf' : ℕ) (old new : Option (List ℕ)) (known : Ended) (written : Result Unit Unwritten) (ended : Ended)
+    → Prepares words files before now (Err known) → HasStepCause {A = Job} shelf shelf' (Err known) → Writes (refusal_text known) old new written
+    → MatchResult written (λ _. ended ≡ known) (λ _. ended ≡ WriteFault) → Answers words files before now shelf shelf' old new ended
+told_refusal words files before now shelf shelf' old new known (Ok _) ended comes cause taken is =
+    subst (Answers words files before now shelf shelf' old new) (sym is) (refused words files before now shelf shelf' old new known comes taken)
+told_refusal words files before now shelf shelf' old new known (Err _) ended comes cause front is =
+    subst (Answers words files before now shelf shelf' old new) (sym is) (unwritten words files before now shelf shelf' old new known comes cause front)
+
+-- What was written, over whatever shelf
+
+text_of_job : (o : Option SeqCommand) (program : Plain) (mesh : MeshLists) (text : List ℕ) → (o ≡ None → ⊥) → text ≡ done_text program mesh
+    → MatchOption o (text ≡ refusal_text Usage) (λ _. ((e : Ended) × (text ≡ refusal_text e)) ⊎ ((p : Plain) × (m : MeshLists) × (text ≡ done_text p m)))
+text_of_job None program mesh text some is = absurd (some refl)
+text_of_job (Some c) program mesh text some is = inr (program, mesh, is)
+
+text_of_refusal : (o : Option SeqCommand) (ended : Ended) → (o ≡ None → ended ≡ Usage)
+    → MatchOption o (refusal_text ended ≡ refusal_text Usage) (λ _. ((e : Ended) × (refusal_text ended ≡ refusal_text e)) ⊎ ((p : Plain) × (m : MeshLists) × (refusal_text ended ≡ done_text p m)))
+text_of_refusal None ended usage = ap refusal_text (usage refl)
+text_of_refusal (Some c) ended usage = inl (ended, refl)
+
+pub wrote_job : (words : List (List ℕ)) (old new : Option (List ℕ)) (text : List ℕ) (program : Plain) (mesh : MeshLists) (written : Result Unit Unwritten) (ended : Ended)
+    → (command_of words ≡ None → ⊥) → text ≡ done_text program mesh → Writes text old new written → MatchResult written (λ _. ended ≡ Done) (λ _. ended ≡ WriteFault)
+    → Wrote words old new ended
+wrote_job words old new text program mesh (Ok _) ended some is taken ends = subst (Wrote words old new) (sym ends) (program, mesh, taken ∙ ap (append_known old) is)
+wrote_job words old new text program mesh (Err _) ended some is front ends =
+    subst (Wrote words old new) (sym ends) (text, text_of_job (command_of words) program mesh text some is, front)
+
+wrote_line : (words : List (List ℕ)) (shelf shelf' : ℕ) (old new : Option (List ℕ)) (known : Ended) → HasStepCause {A = Job} shelf shelf' (Err known) → new ≡ append_known old (refusal_text known) → Wrote words old new known
+wrote_line words shelf shelf' old new (ReadFault x) can taken = taken
+wrote_line words shelf shelf' old new (Later x) can taken = taken
+wrote_line words shelf shelf' old new Usage can taken = taken
+wrote_line words shelf shelf' old new NoMemory can taken = taken
+wrote_line words shelf shelf' old new Done can taken = absurd can
+wrote_line words shelf shelf' old new WriteFault can taken = absurd can
+
+pub wrote_refusal : (words : List (List ℕ)) (shelf shelf' : ℕ) (old new : Option (List ℕ)) (known : Ended) (written : Result Unit Unwritten) (ended : Ended)
+    → (command_of words ≡ None → known ≡ Usage) → HasStepCause {A = Job} shelf shelf' (Err known) → Writes (refusal_text known) old new written
+    → MatchResult written (λ _. ended ≡ known) (λ _. ended ≡ WriteFault) → Wrote words old new ended
+wrote_refusal words shelf shelf' old new known (Ok _) ended usage can taken ends = subst (Wrote words old new) (sym ends) (wrote_line words shelf shelf' old new known can taken)
+wrote_refusal words shelf shelf' old new known (Err _) ended usage can front ends =
+    subst (Wrote words old new) (sym ends) (refusal_text known, text_of_refusal (command_of words) known usage, front)
 
 written_cause : (shelf shelf' sink sink' : ℕ) (refusal : Ended) → HasStepCause {A = Job} shelf shelf' (Err refusal) → sink' ≡ sink → HasCauses shelf shelf' sink sink' refusal
-written_cause shelf shelf' sink sink' (ReadFault x) first second = (first.0, first.1, second)
+written_cause shelf shelf' sink sink' (ReadFault x) first second = (first, second)
 written_cause shelf shelf' sink sink' (Later x) first second = (first, second)
 written_cause shelf shelf' sink sink' Usage first second = (first, second)
 written_cause shelf shelf' sink sink' NoMemory first second = (first, second)
@@ -207,4 +248,4 @@ pub causes_of : (shelf shelf' sink sink' : ℕ) (refusal : Ended) (written : Res
 causes_of shelf shelf' sink sink' first_ended (Ok _) ended first second is =
     subst (HasCauses shelf shelf' sink sink') (sym is) (written_cause shelf shelf' sink sink' first_ended first second.kept)
 causes_of shelf shelf' sink sink' first_ended (Err _) ended first second is =
-    subst (HasCauses shelf shelf' sink sink') (sym is) (not_fallen shelf shelf' first_ended first, second.later, second.failed)
+    subst (HasCauses shelf shelf' sink sink') (sym is) (not_fallen shelf shelf' first_ended first, second.failed)

@@ -1,7 +1,8 @@
 -- What the top call answers over a shelf and a sink, and what its steps answer. This project's own.
-use Rattle.std.specs.Prelude.{◌≡◌, ℕ, ◌≤◌, ◌⊎◌, List, [], ◌∷◌, length, Option, Some, None, Result, Ok, Err}
+use Rattle.std.specs.Prelude.{◌≡◌, ℕ, ◌≤◌, ◌⊎◌, List, [], ◌∷◌, length, Option, Some, None, Result, Ok, Err, MatchOption}
 use Rattle.std.specs.Io.KnownBytes.{append_known}
 use Rattle.liszt_base.specs.declared.answers.Input.{Input}
+use Rattle.liszt_base.specs.MeshLists.{MeshLists}
 use Rattle.liszt_io.specs.Causes.{Rose}
 use Rattle.liszt_io.specs.Shelves.{Files, file, Tally}
 use Rattle.liszt_io.specs.Sinks.{IsFrontTaken}
@@ -10,7 +11,9 @@ use Rattle.liszt_run.specs.declared.ended.Ended.TheVariants.{Done, Usage, Later,
 use Rattle.liszt_run.specs.declared.top.Step.{Step}
 use Rattle.liszt_run.specs.declared.top.Step.TheVariants.{Ended as EndedNow}
 use Rattle.liszt_run.specs.declared.inputs.Job.{Job}
-use Rattle.liszt_run.specs.Endings.{refusal_text, field_text}
+use Rattle.liszt_parser.specs.declared.plain.Plain.{Plain}
+use Rattle.liszt_run.specs.Commands.{command_of}
+use Rattle.liszt_run.specs.Endings.{refusal_text, field_text, done_text}
 use Rattle.liszt_run.specs.Expected.{Outcome, refusal, InForm, IsOutside, ComesTo}
 
 -- No file of that name is held, or faults other than strays came in between, the last of them at that name.
@@ -22,21 +25,45 @@ abbrev pub EndsSo : List (List ℕ) → Files → Tally → Tally → Option (Li
 EndsSo words files before now old new ended =
     (text : List ℕ) × ComesTo (IsLost files before now) words files (record { ended = ended; text = text }) × (new ≡ append_known old text)
 
+-- the shelf's count behind an ending: it rose for a ReadFault alone
+abbrev pub HasShelfCause : ℕ → ℕ → Ended → Type 0
+HasShelfCause shelf shelf' (ReadFault x) = Rose shelf shelf'
+HasShelfCause shelf shelf' Done = shelf' ≡ shelf
+HasShelfCause shelf shelf' Usage = shelf' ≡ shelf
+HasShelfCause shelf shelf' (Later x) = shelf' ≡ shelf
+HasShelfCause shelf shelf' WriteFault = shelf' ≡ shelf
+HasShelfCause shelf shelf' NoMemory = shelf' ≡ shelf
+
 -- What an answer says where the shelf tells its files: the words and the files come to it, and the sink took its text.
--- After a WriteFault the sink took a front of the text that was being written. Want of memory is free.
-abbrev pub Answers : List (List ℕ) → Files → Tally → Tally → Option (List ℕ) → Option (List ℕ) → Ended → Type 0
-Answers words files before now old new Done = EndsSo words files before now old new Done
-Answers words files before now old new Usage = EndsSo words files before now old new Usage
-Answers words files before now old new (Later x) = EndsSo words files before now old new (Later x)
-Answers words files before now old new (ReadFault x) = EndsSo words files before now old new (ReadFault x)
-Answers words files before now old new NoMemory = new ≡ append_known old (refusal_text NoMemory)
-Answers words files before now old new WriteFault =
+-- After a WriteFault the sink took a front of the text of the ending that was being written. Want of memory is free.
+abbrev pub Answers : List (List ℕ) → Files → Tally → Tally → ℕ → ℕ → Option (List ℕ) → Option (List ℕ) → Ended → Type 0
+Answers words files before now shelf shelf' old new Done = EndsSo words files before now old new Done
+Answers words files before now shelf shelf' old new Usage = EndsSo words files before now old new Usage
+Answers words files before now shelf shelf' old new (Later x) = EndsSo words files before now old new (Later x)
+Answers words files before now shelf shelf' old new (ReadFault x) = EndsSo words files before now old new (ReadFault x)
+Answers words files before now shelf shelf' old new NoMemory = new ≡ append_known old (refusal_text NoMemory)
+Answers words files before now shelf shelf' old new WriteFault =
     (outcome : Outcome) × (ComesTo (IsLost files before now) words files outcome ⊎ (outcome ≡ refusal NoMemory)) × IsFrontTaken old new outcome.text
+    × HasShelfCause shelf shelf' outcome.ended
+
+-- a text that the words can come to, over whatever files
+abbrev pub IsTextOf : List (List ℕ) → List ℕ → Type 0
+IsTextOf words text = MatchOption (command_of words) (text ≡ refusal_text Usage) (λ _.
+    ((ended : Ended) × (text ≡ refusal_text ended)) ⊎ ((program : Plain) × (mesh : MeshLists) × (text ≡ done_text program mesh)))
+
+-- What the sink took, over whatever shelf: a refusal's line, the text of a program on a mesh, or a front of one of these.
+abbrev pub Wrote : List (List ℕ) → Option (List ℕ) → Option (List ℕ) → Ended → Type 0
+Wrote words old new Done = (program : Plain) × (mesh : MeshLists) × (new ≡ append_known old (done_text program mesh))
+Wrote words old new WriteFault = (text : List ℕ) × IsTextOf words text × IsFrontTaken old new text
+Wrote words old new Usage = new ≡ append_known old (refusal_text Usage)
+Wrote words old new (Later x) = new ≡ append_known old (refusal_text (Later x))
+Wrote words old new (ReadFault x) = new ≡ append_known old (refusal_text (ReadFault x))
+Wrote words old new NoMemory = new ≡ append_known old (refusal_text NoMemory)
 
 -- The faults behind an answer: of the shelf for a ReadFault alone, and of the sink for a WriteFault alone.
 abbrev pub HasCauses : ℕ → ℕ → ℕ → ℕ → Ended → Type 0
-HasCauses shelf shelf' sink sink' (ReadFault x) = (shelf ≤ shelf') × Rose shelf shelf' × (sink' ≡ sink)
-HasCauses shelf shelf' sink sink' WriteFault = (shelf ≤ shelf') × (sink ≤ sink') × Rose sink sink'
+HasCauses shelf shelf' sink sink' (ReadFault x) = Rose shelf shelf' × (sink' ≡ sink)
+HasCauses shelf shelf' sink sink' WriteFault = (shelf ≤ shelf') × Rose sink sink'
 HasCauses shelf shelf' sink sink' Done = (shelf' ≡ shelf) × (sink' ≡ sink)
 HasCauses shelf shelf' sink sink' Usage = (shelf' ≡ shelf) × (sink' ≡ sink)
 HasCauses shelf shelf' sink sink' (Later x) = (shelf' ≡ shelf) × (sink' ≡ sink)
@@ -54,7 +81,7 @@ ended_of (EndedNow ended) = ended
 -- A step that takes in an input: its answer and the shelf's count.
 abbrev pub HasStepCause : {A : Type 0} → ℕ → ℕ → Result A Ended → Type 0
 HasStepCause before now (Ok _) = now ≡ before
-HasStepCause before now (Err (ReadFault x)) = (before ≤ now) × Rose before now
+HasStepCause before now (Err (ReadFault x)) = Rose before now
 HasStepCause before now (Err (Later x)) = now ≡ before
 HasStepCause before now (Err NoMemory) = now ≡ before
 HasStepCause before now (Err Usage) = now ≡ before

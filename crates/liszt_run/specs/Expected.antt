@@ -33,10 +33,10 @@ InForm Spells bytes value = (length bytes ≤ file_limit) × Spells bytes value
 abbrev pub IsOutside : {A : Type 0} → (List ℕ → A → Type 0) → List ℕ → Type 0
 IsOutside {A} Spells bytes = (file_limit < length bytes) ⊎ ((value : A) → Spells bytes value → ⊥)
 
--- An input is taken in: its file is lost, or it is outside its form, or the command goes on with what it spells.
+-- An input is taken in: its file is missing, or it is outside its form, or the command goes on with what it spells.
 abbrev pub TakesIn : {A : Type 0} → (List ℕ → Type 0) → Files → Input → List ℕ → (List ℕ → A → Type 0) → (A → Outcome → Type 0) → Outcome → Type 0
-TakesIn {A} IsLost files input name Spells GoesOn outcome =
-    (IsLost name × (outcome ≡ refusal (ReadFault input)))
+TakesIn {A} IsMissing files input name Spells GoesOn outcome =
+    (IsMissing name × (outcome ≡ refusal (ReadFault input)))
     ⊎ (((bytes : List ℕ) × (file files name ≡ Some bytes) × IsOutside Spells bytes × (outcome ≡ refusal (Later input)))
     ⊎ ((bytes : List ℕ) × (value : A) × (file files name ≡ Some bytes) × InForm Spells bytes value × GoesOn value outcome))
 
@@ -45,18 +45,18 @@ abbrev pub Finishes : Plain → MeshLists → Outcome → Type 0
 Finishes program mesh outcome = outcome ≡ record { ended = Done; text = done_text program mesh }
 
 abbrev pub TakesCells : (List ℕ → Type 0) → Files → SeqCommand → Plain → PointTable → Outcome → Type 0
-TakesCells IsLost files c program table = TakesIn IsLost files Ele c.ele (IsPlainMeshOver table) (Finishes program)
+TakesCells IsMissing files c program table = TakesIn IsMissing files Ele c.ele (IsPlainMeshOver table) (Finishes program)
 
 abbrev pub TakesPoints : (List ℕ → Type 0) → Files → SeqCommand → Plain → Outcome → Type 0
-TakesPoints IsLost files c program = TakesIn IsLost files Node c.node IsPlainNode (TakesCells IsLost files c program)
+TakesPoints IsMissing files c program = TakesIn IsMissing files Node c.node IsPlainNode (TakesCells IsMissing files c program)
 
 abbrev pub Seq : (List ℕ → Type 0) → Files → SeqCommand → Outcome → Type 0
-Seq IsLost files c = TakesIn IsLost files Program c.program IsPlainProgram (TakesPoints IsLost files c)
+Seq IsMissing files c = TakesIn IsMissing files Program c.program IsPlainProgram (TakesPoints IsMissing files c)
 
--- what a list of words comes to, where a file is lost by its name
+-- what a list of words comes to, where a file is missing by its name
 abbrev pub ComesTo : (List ℕ → Type 0) → List (List ℕ) → Files → Outcome → Type 0
-ComesTo IsLost words files outcome = MatchOption (command_of words) (outcome ≡ refusal Usage) (λ c. Seq IsLost files c outcome)
+ComesTo IsMissing words files outcome = MatchOption (command_of words) (outcome ≡ refusal Usage) (λ c. Seq IsMissing files c outcome)
 
--- The ending and the text of the words over these files: a file is lost where none has its name.
+-- The ending and the text of the words over these files: a file is missing where none has its name.
 abbrev pub Expected : List (List ℕ) → Files → Outcome → Type 0
 Expected words files = ComesTo (λ name. file files name ≡ None) words files

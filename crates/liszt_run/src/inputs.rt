@@ -5,7 +5,9 @@ ghost use Rattle.liszt_parser.specs.PlainProgram.{IsPlainProgram};
 ghost use Rattle.tet_reader.specs.PlainMesh.{IsPlainNode, IsPlainMeshOver};
 ghost use Rattle.liszt_run.specs.declared.ended.Ended.TheVariants.{Usage};
 ghost use Rattle.liszt_run.specs.Commands.{command_of};
-ghost use Rattle.liszt_run.specs.Answers.{HasStepCause, StepGives, SpellsItself, Prepares};
+ghost use Rattle.liszt_base.specs.MeshLists.{MeshLists};
+ghost use Rattle.liszt_run.specs.Endings.{done_text};
+ghost use Rattle.liszt_run.specs.Answers.{HasStepCause, StepGives, SpellsItself, Prepares, job_text};
 
 use crate::command::command_of;
 use crate::ended::Ended;
@@ -32,6 +34,7 @@ pub fn prepare<F: Shelf>(alloc: Global, words: &WordList, shelf: &mut F) -> Resu
     ensures cause { HasStepCause (F.faults shelf.old) (F.faults shelf.new) result }
     ensures usage { command_of words.now ≡ None → (result ≡ Err Usage) × (shelf.new ≡ shelf.old) }
     ensures only { result ≡ Err Usage → command_of words.now ≡ None }
+    ensures job { IfOk result (λ job. (program : Plain) × (mesh : MeshLists) × (job_text job ≡ done_text program mesh)) }
     ensures told { (files : Files) → F.held shelf.old ≡ Some files
         → Prepares words.now files (F.tally shelf.old) (F.tally shelf.new) result }
 {

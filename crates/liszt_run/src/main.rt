@@ -4,8 +4,11 @@
 mod command;
 mod ended;
 mod inputs;
+mod laws;
 mod line_buf;
 mod report;
+#[cfg(test)]
+mod tests;
 mod top;
 
 use crate::ended::{Ended, status_of};
@@ -39,7 +42,9 @@ fn words_of<R: Env + AllocGlobal>(rt: &R, alloc: Global) -> Result<WordList, End
 fn main(rt: HostRuntime) -> ExitCode {
     let alloc = rt.alloc();
     let Ok(writer) = BufWriter::new(alloc, io::writer(&rt)) else {
-        return ExitCode::from(status_of(Ended::NoMemory));
+        let mut out = HostSink::new(io::writer(&rt));
+        let written = write_refusal(&mut out, Ended::NoMemory);
+        return ExitCode::from(status_of(ended_by(written, Ended::NoMemory)));
     };
     let mut out = HostSink::new(writer);
     let ended = match words_of(&rt, alloc) {

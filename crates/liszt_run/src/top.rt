@@ -4,7 +4,7 @@ ghost use Rattle.liszt_io.specs.Shelves.{Files};
 ghost use Rattle.liszt_run.specs.declared.ended.Ended.TheVariants.{Usage, WriteFault as NotWritten};
 ghost use Rattle.liszt_run.specs.Commands.{command_of};
 ghost use Rattle.liszt_run.specs.Expected.{Outcome, Expected};
-ghost use Rattle.liszt_run.specs.Answers.{Answers, HasCauses, IsOutcome, ended_of};
+ghost use Rattle.liszt_run.specs.Answers.{Answers, Wrote, HasCauses, IsOutcome, ended_of};
 
 use crate::ended::Ended;
 use crate::inputs::prepare;
@@ -16,7 +16,7 @@ use std::sync::Wait;
 use std::thread::Threads;
 
 /// What `run_returning` leaves: the ending, with its text written.
-#[derive(Clone, Copy, Debug, PartialEq, Eq)]
+#[derive(Debug, Drop)]
 pub enum Step {
     Ended(Ended),
 }
@@ -31,7 +31,9 @@ pub fn run_words<R: Threads + Wait + Sync, F: Shelf, S: Sink, G: Gate + Sync>(
     gate: &G,
 ) -> Ended
     ensures told { (files : Files) → F.held shelf.old ≡ Some files
-        → Answers words.now files (F.tally shelf.old) (F.tally shelf.new) (S.taken out.old) (S.taken out.new) result }
+        → Answers words.now files (F.tally shelf.old) (F.tally shelf.new) (F.faults shelf.old) (F.faults shelf.new)
+        (S.taken out.old) (S.taken out.new) result }
+    ensures wrote { Wrote words.now (S.taken out.old) (S.taken out.new) result }
     ensures complete { (files : Files) (outcome : Outcome) → F.held shelf.old ≡ Some files → Expected words.now files outcome
         → (Rose (F.tally shelf.old).others (F.tally shelf.new).others → ⊥) → (Rose (S.faults out.old) (S.faults out.new) → ⊥)
         → IsOutcome outcome (S.taken out.old) (S.taken out.new) result }
@@ -40,7 +42,14 @@ pub fn run_words<R: Threads + Wait + Sync, F: Shelf, S: Sink, G: Gate + Sync>(
     ensures only { result ≡ Usage → command_of words.now ≡ None }
     ensures held { F.held shelf.new ≡ F.held shelf.old }
 {
-    match run_returning(rt, alloc, words, shelf, out, gate) {
+    ended_in(run_returning(rt, alloc, words, shelf, out, gate))
+}
+
+/// The ending that a step leaves.
+fn ended_in(step: Step) -> Ended
+    ensures { result ≡ ended_of step }
+{
+    match step {
         Step::Ended(ended) => ended,
     }
 }
@@ -55,7 +64,9 @@ pub fn run_returning<R: Threads + Sync, F: Shelf, S: Sink, G: Gate + Sync>(
     _gate: &G,
 ) -> Step
     ensures told { (files : Files) → F.held shelf.old ≡ Some files
-        → Answers words.now files (F.tally shelf.old) (F.tally shelf.new) (S.taken out.old) (S.taken out.new) (ended_of result) }
+        → Answers words.now files (F.tally shelf.old) (F.tally shelf.new) (F.faults shelf.old) (F.faults shelf.new)
+        (S.taken out.old) (S.taken out.new) (ended_of result) }
+    ensures wrote { Wrote words.now (S.taken out.old) (S.taken out.new) (ended_of result) }
     ensures complete { (files : Files) (outcome : Outcome) → F.held shelf.old ≡ Some files → Expected words.now files outcome
         → (Rose (F.tally shelf.old).others (F.tally shelf.new).others → ⊥) → (Rose (S.faults out.old) (S.faults out.new) → ⊥)
         → IsOutcome outcome (S.taken out.old) (S.taken out.new) (ended_of result) }
@@ -70,7 +81,9 @@ pub fn run_returning<R: Threads + Sync, F: Shelf, S: Sink, G: Gate + Sync>(
 /// Takes in what the words name, and then writes the text of the ending that is known by then.
 fn run<F: Shelf, S: Sink>(alloc: Global, words: &WordList, shelf: &mut F, out: &mut S) -> Ended
     ensures told { (files : Files) → F.held shelf.old ≡ Some files
-        → Answers words.now files (F.tally shelf.old) (F.tally shelf.new) (S.taken out.old) (S.taken out.new) result }
+        → Answers words.now files (F.tally shelf.old) (F.tally shelf.new) (F.faults shelf.old) (F.faults shelf.new)
+        (S.taken out.old) (S.taken out.new) result }
+    ensures wrote { Wrote words.now (S.taken out.old) (S.taken out.new) result }
     ensures causes { HasCauses (F.faults shelf.old) (F.faults shelf.new) (S.faults out.old) (S.faults out.new) result }
     ensures usage { command_of words.now ≡ None → ((result ≡ Usage) ⊎ (result ≡ NotWritten)) × (shelf.new ≡ shelf.old) }
     ensures only { result ≡ Usage → command_of words.now ≡ None }

@@ -1,6 +1,7 @@
 -- Reading rows one after the other, as a loop does.
 use Rattle.std.proofs.Common.{◌≡◌, ℕ, suc, ◌+◌, ◌-◌, ◌<◌, List, [], ◌∷◌, ◌++◌, Option, Some, None, refl, sym, ap, ◌∙◌, append_assoc, arith}
-use Rattle.tet_reader.specs.Reading.{◌>>=◌, rows_at}
+use Rattle.liszt_base.specs.Pieces.{◌>>=◌}
+use Rattle.tet_reader.specs.Reading.{rows_at}
 
 -- what was read before, and what is still read
 abbrev pub with_front : {A : Type 0} → List A → Option (List A) → Option (List A)

@@ -4,14 +4,16 @@ use Rattle.std.specs.Prelude.{codes}
 use Rattle.std.specs.List.{AllByRecursion}
 use Rattle.std.proofs.lemmas.Bool.Decides.{nat_tests}
 use Rattle.liszt_base.specs.Numbers.{BeginsWithNumber}
+use Rattle.liszt_base.specs.Pieces.{◌>>=◌}
+use Rattle.liszt_base.proofs.Pieces.{bind_some, chosen, some_is}
 use Rattle.liszt_base.specs.MeshLists.{MeshLists}
 use Rattle.liszt_base.specs.declared.mesh.Point.{Point}
 use Rattle.liszt_base.specs.declared.mesh.RawCell.{RawCell}
 use Rattle.liszt_base.specs.declared.mesh.PointTable.{PointTable}
 use Rattle.tet_reader.specs.PlainRows.{AreRows, numbered}
-use Rattle.tet_reader.specs.PlainMesh.{Place, place_row, point_of, Corners, corner_row, cell_of, IsInRange, AreCorners, IsPlainNode, IsPlainEle, IsPlainMeshOver}
-use Rattle.tet_reader.specs.Reading.{◌>>=◌, row_at, rows_at, header_at, first_at, point_from, point_at, is_place, are_different, are_places, are_corners, cell_from, cell_at, table_at, node_at, cells_at, ele_at}
-use Rattle.tet_reader.proofs.Rows.{bind_some, chosen, some_is, header_takes, header_again, BeginsWithRow, row_join, row_takes, row_again, row_first, IsReader, rows_take, rows_again}
+use Rattle.tet_reader.specs.PlainMesh.{Coordinates, coordinates_row, point_of, Corners, corner_row, cell_of, IsInRange, AreCorners, IsPlainNode, IsPlainEle, IsPlainMeshOver}
+use Rattle.tet_reader.specs.Reading.{row_at, rows_at, header_at, first_at, point_from, point_at, is_place, are_different, are_places, are_corners, cell_from, cell_at, table_at, node_at, cells_at, ele_at}
+use Rattle.tet_reader.proofs.Rows.{header_takes, header_again, BeginsWithRow, row_join, row_takes, row_again, row_first, IsReader, rows_take, rows_again}
 
 -- ---- tests
 
@@ -70,37 +72,37 @@ corners_again base points q h =
 
 -- ---- points
 
-abbrev AnyPlace : Place → Type 0
+abbrev AnyPlace : Coordinates → Type 0
 AnyPlace p = Unit {0}
 
-any_places : (places : List Place) → AllByRecursion AnyPlace places
+any_places : (places : List Coordinates) → AllByRecursion AnyPlace places
 any_places [] = tt
 any_places (p ∷ places) = (tt, any_places places)
 
 abbrev FromRow : {S A : Type 0} → (S → List ℕ) → (S → A) → (S → Type 0) → ℕ → List ℕ → A → List ℕ → Type 0
 FromRow {S} words value Good number bytes item rest = (s : S) × (item ≡ value s) × Good s × BeginsWithRow bytes (number ∷ words s) rest
 
-point_case : (number : ℕ) (bytes ns mid : List ℕ) (x : Point × List ℕ) → BeginsWithRow bytes ns mid → point_from number ns mid ≡ Some x → FromRow place_row point_of AnyPlace number bytes x.0 x.1
+point_case : (number : ℕ) (bytes ns mid : List ℕ) (x : Point × List ℕ) → BeginsWithRow bytes ns mid → point_from number ns mid ≡ Some x → FromRow coordinates_row point_of AnyPlace number bytes x.0 x.1
 point_case number bytes (n ∷ x ∷ y ∷ z ∷ []) mid found t e =
-    let s : Place = record { x = x; y = y; z = z } in
+    let s : Coordinates = record { x = x; y = y; z = z } in
     let c = chosen (n == number) (Some (point_of s, mid)) found e in
-    let row : BeginsWithRow bytes (number ∷ place_row s) mid = subst (λ (k : ℕ). BeginsWithRow bytes (k ∷ place_row s) mid) (eqb-true n number c.0) t in
-    subst (λ (q : Point × List ℕ). FromRow place_row point_of AnyPlace number bytes q.0 q.1) (some_is (point_of s, mid) found c.1) (s, refl, tt, row)
+    let row : BeginsWithRow bytes (number ∷ coordinates_row s) mid = subst (λ (k : ℕ). BeginsWithRow bytes (k ∷ coordinates_row s) mid) (eqb-true n number c.0) t in
+    subst (λ (q : Point × List ℕ). FromRow coordinates_row point_of AnyPlace number bytes q.0 q.1) (some_is (point_of s, mid) found c.1) (s, refl, tt, row)
 point_case number bytes _ mid found t e = cc
 
-point_takes : (number : ℕ) (bytes : List ℕ) (item : Point) (rest : List ℕ) → point_at number bytes ≡ Some (item, rest) → FromRow place_row point_of AnyPlace number bytes item rest
+point_takes : (number : ℕ) (bytes : List ℕ) (item : Point) (rest : List ℕ) → point_at number bytes ≡ Some (item, rest) → FromRow coordinates_row point_of AnyPlace number bytes item rest
 unfolding point_at
 point_takes number bytes item rest e =
     let p = bind_some (row_at 3 bytes) (λ row. point_from number row.0 row.1) (item, rest) e in
     point_case number bytes p.0.0 p.0.1 (item, rest) (row_takes 3 bytes p.0 p.1) p.2
 
-point_again : (number : ℕ) (bytes : List ℕ) (s : Place) (rest : List ℕ) → AnyPlace s → BeginsWithRow bytes (number ∷ place_row s) rest → point_at number bytes ≡ Some (point_of s, rest)
+point_again : (number : ℕ) (bytes : List ℕ) (s : Coordinates) (rest : List ℕ) → AnyPlace s → BeginsWithRow bytes (number ∷ coordinates_row s) rest → point_at number bytes ≡ Some (point_of s, rest)
 unfolding point_at
 point_again number bytes s rest good t =
-    let row : row_at 3 bytes ≡ Some (number ∷ place_row s, rest) = row_again 3 bytes (number ∷ place_row s) rest t refl in
+    let row : row_at 3 bytes ≡ Some (number ∷ coordinates_row s, rest) = row_again 3 bytes (number ∷ coordinates_row s) rest t refl in
     ap (λ (o : Option (List ℕ × List ℕ)). o >>= λ row. point_from number row.0 row.1) row ∙ rw (eq-eqb number number refl) refl
 
-point_reader : IsReader point_at place_row point_of AnyPlace
+point_reader : IsReader point_at coordinates_row point_of AnyPlace
 point_reader = record { takes = point_takes; again = point_again }
 
 -- ---- cells
@@ -160,10 +162,10 @@ node_takes bytes t e =
     let h = bind_some (header_at (codes "3 0 0\n") bytes) (λ h. table_at h.0 (first_at h.1) h.1) t e in
     node_made bytes h.0.1 h.0.0 (first_at h.0.1) t (header_takes (codes "3 0 0\n") bytes h.0 h.1) h.2
 
-first_place : (rest : List ℕ) (base : ℕ) (places : List Place) → 1 ≤ length places → AreRows rest (numbered base (map place_row places)) → first_at rest ≡ base
+first_place : (rest : List ℕ) (base : ℕ) (places : List Coordinates) → 1 ≤ length places → AreRows rest (numbered base (map coordinates_row places)) → first_at rest ≡ base
 first_place rest base [] some rows = absurd (omega arith)
 first_place rest base (p ∷ places) some rows =
-    ap first_at rows.2 ∙ row_first (rows.0 ++ rows.1) base p.x (p.y ∷ p.z ∷ []) rows.1 (row_join rows.0 (base ∷ place_row p) rows.1 rows.3)
+    ap first_at rows.2 ∙ row_first (rows.0 ++ rows.1) base p.x (p.y ∷ p.z ∷ []) rows.1 (row_join rows.0 (base ∷ coordinates_row p) rows.1 rows.3)
 
 pub node_again : (bytes : List ℕ) (t : PointTable) → IsPlainNode bytes t → node_at bytes ≡ Some t
 unfolding node_at

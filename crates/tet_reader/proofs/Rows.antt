@@ -1,45 +1,12 @@
 -- What is read is spelled so, and what is spelled so is read: pieces, rows and lists of rows.
-use Rattle.std.proofs.Common.{◌≡◌, ◌≢◌, ℕ, zero, suc, ◌+◌, ◌==◌, Bool, true, false, cond, List, [], ◌∷◌, ◌++◌, length, map, Option, Some, None, Bor, refl, sym, ap, subst, ◌∙◌, append_assoc, arith, lit≤, eqb-true, eq-eqb}
-use Rattle.std.specs.Option.{MatchOption, option_map}
+use Rattle.std.proofs.Common.{◌≡◌, ℕ, zero, suc, ◌+◌, List, [], ◌∷◌, ◌++◌, length, map, Option, Some, refl, sym, ap, subst, ◌∙◌, append_assoc, arith, lit≤}
 use Rattle.std.specs.List.{AllByRecursion}
 use Rattle.liszt_base.specs.Numbers.{BeginsWithNumber, number_at}
 use Rattle.liszt_base.proofs.Numbers.{taken_number, again_number}
 use Rattle.tet_reader.specs.PlainRows.{IsRow, AreRows, numbered}
-use Rattle.tet_reader.specs.Reading.{◌>>=◌, after, row_at, rows_at, first_at, header_at}
-
-pub bind_some : {A B : Type 0} (o : Option A) (f : A → Option B) (y : B) → (o >>= f) ≡ Some y → (x : A) × (o ≡ Some x) × (f x ≡ Some y)
-bind_some (Some x) f y e = (x, refl, e)
-bind_some None f y e = cc
-
-pub chosen : {A : Type 0} (b : Bool) (o : Option A) (y : A) → cond b o None ≡ Some y → (b ≡ true) × (o ≡ Some y)
-chosen true o y e = (refl, e)
-chosen false o y e = cc
-
-pub some_is : {A : Type 0} (x y : A) → ◌≡◌ {A = Option A} (Some x) (Some y) → x ≡ y
-some_is x y e = cc
-
--- ---- a piece at the front
-
-pub after_takes : (piece bytes rest : List ℕ) → after piece bytes ≡ Some rest → bytes ≡ piece ++ rest
-after_takes [] bytes rest e = some_is bytes rest e
-after_takes (p ∷ piece) [] rest e = cc
-after_takes (p ∷ piece) (b ∷ bytes) rest e =
-    let c = chosen (b == p) (after piece bytes) rest e in
-    let same : b ≡ p = eqb-true b p c.0 in
-    let more : bytes ≡ piece ++ rest = after_takes piece bytes rest c.1 in
-    cc
-
-pub after_again : (piece rest : List ℕ) → after piece (piece ++ rest) ≡ Some rest
-after_again [] rest = refl
-after_again (p ∷ piece) rest = rw (eq-eqb p p refl) (after_again piece rest)
-
--- what std's reader of a piece gives
-pub after_is : (piece bytes : List ℕ) (r : Option (Bor (List ℕ))) → MatchOption r ((rest : List ℕ) → bytes ≢ piece ++ rest) (λ x. bytes ≡ piece ++ x.now) → option_map (λ x. x.now) r ≡ after piece bytes
-after_is piece bytes (Some x) h = rw h (sym (after_again piece x.now))
-after_is piece bytes None h = go (after piece bytes) refl where
-  go : (o : Option (List ℕ)) → after piece bytes ≡ o → None ≡ o
-  go None is = refl
-  go (Some rest) is = absurd (h rest (after_takes piece bytes rest is))
+use Rattle.liszt_base.specs.Pieces.{◌>>=◌, after}
+use Rattle.liszt_base.proofs.Pieces.{bind_some, some_is, after_takes, after_again}
+use Rattle.tet_reader.specs.Reading.{row_at, rows_at, first_at, header_at}
 
 pub header_takes : (words bytes : List ℕ) (h : ℕ × List ℕ) → header_at words bytes ≡ Some h → BeginsWithNumber bytes 32 h.0 (words ++ h.1)
 unfolding header_at

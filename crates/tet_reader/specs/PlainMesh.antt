@@ -13,26 +13,26 @@ use Rattle.liszt_base.specs.declared.mesh.PointTable.{PointTable}
 use Rattle.tet_reader.specs.PlainRows.{AreRows, numbered}
 
 -- three coordinates in whole units, as a row after its number, and as the point in millionths
-pub record Place : Type 0 where
+pub record Coordinates : Type 0 where
   pub x : ℕ
   pub y : ℕ
   pub z : ℕ
 
-abbrev pub place_row : Place → List ℕ
-place_row p = p.x ∷ p.y ∷ p.z ∷ []
+abbrev pub coordinates_row : Coordinates → List ℕ
+coordinates_row p = p.x ∷ p.y ∷ p.z ∷ []
 
-abbrev pub point_of : Place → Point
+abbrev pub point_of : Coordinates → Point
 point_of p = record { x = pos (p.x * 1000000); y = pos (p.y * 1000000); z = pos (p.z * 1000000); mark = pos 0 }
 
 -- The bytes are a node file with this table: the header `N 3 0 0`, and N rows whose numbers run on from 0 or 1.
 pub record IsPlainNode (bytes : List ℕ) (table : PointTable) : Type 0 where
-  pub places : List Place
+  pub places : List Coordinates
   pub rest : List ℕ
   pub header : BeginsWithNumber bytes 32 (length places) (codes "3 0 0\n" ++ rest)
   pub some : 1 ≤ length places
   pub few : length places ≤ 200000
   pub base : table.base ≤ 1
-  pub rows : AreRows rest (numbered table.base (map place_row places))
+  pub rows : AreRows rest (numbered table.base (map coordinates_row places))
   pub points : table.list ≡ map point_of places
 
 -- the four corners of a cell by the numbers of the node file

@@ -2,21 +2,11 @@
 -- promised stands in PlainMesh.antt.
 use Rattle.std.specs.Prelude.{ℕ, zero, suc, ◌+◌, ◌-◌, ◌==◌, ◌&&◌, not, nat_lt, nat_le, if◌then◌else◌, Bool, Option, Some, None, List, [], ◌∷◌, codes}
 use Rattle.liszt_base.specs.Numbers.{number_at}
+use Rattle.liszt_base.specs.Pieces.{◌>>=◌, after}
 use Rattle.liszt_base.specs.declared.mesh.Point.{Point}
 use Rattle.liszt_base.specs.declared.mesh.RawCell.{RawCell}
 use Rattle.liszt_base.specs.declared.mesh.PointTable.{PointTable}
 use Rattle.tet_reader.specs.PlainMesh.{point_of, Corners, cell_of}
-
-infixl 10 ◌>>=◌
-abbrev pub ◌>>=◌ : {A B : Type 0} → Option A → (A → Option B) → Option B
-None >>= f = None
-(Some x) >>= f = f x
-
--- what follows this piece at the front of the bytes
-abbrev pub after : List ℕ → List ℕ → Option (List ℕ)
-after [] bytes = Some bytes
-after (p ∷ piece) [] = None
-after (p ∷ piece) (b ∷ bytes) = if b == p then after piece bytes else None
 
 -- a row of one number more than this count, and what follows the row
 abbrev pub row_at : ℕ → List ℕ → Option (List ℕ × List ℕ)

@@ -1,14 +1,8 @@
 ghost use Rattle.std.specs.Prelude.{◌≡◌};
 ghost use Rattle.std.specs.Option.{option_map};
-ghost use Rattle.tet_reader.specs.Reading.{after, header_at, first_at};
+ghost use Rattle.tet_reader.specs.Reading.{header_at, first_at};
 
-use liszt_base::number_before;
-
-fn rest_after<'a>(bytes: &'a [u8], piece: &[u8]) -> Option<&'a [u8]>
-    ensures { option_map (λ x. x.now) result ≡ after piece.now bytes.now }
-{
-    bytes.strip_prefix(piece)
-}
+use liszt_base::{number_before, rest_after};
 
 /// The count at the front of a header whose other words are `words`, and the rows behind it.
 #[tactic(auto, unfolding(crate::specs::Reading::header_at))]

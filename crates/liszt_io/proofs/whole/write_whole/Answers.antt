@@ -11,4 +11,4 @@ loop-done-preserved g c =
 
 pub returns-in-Err-clause-writes : goal.returns-in-Err-clause-writes
 returns-in-Err-clause-writes g c =
-    record { front = take c.loop-done.done c.args.bytes.now; rest = drop c.loop-done.done c.args.bytes.now; parts = sym (take-append-drop c.loop-done.done c.args.bytes.now); taken = c.in-Err.ensures.takes ∙ c.loop-done.invariant.1 }
+    record { front = take c.loop-done.done c.args.bytes.now; rest = drop c.loop-done.done c.args.bytes.now; parts = sym (take-append-drop c.loop-done.done c.args.bytes.now); taken = c.in-Err.ensures.takes.0 ∙ c.loop-done.invariant.1 }

@@ -4,7 +4,7 @@ use Rattle.std.proofs.lemmas.Result.{err_from_is_err_and}
 use Rattle.liszt_run.specs.declared.ended.Ended.{Ended}
 use Rattle.liszt_run.specs.declared.inputs.Job.{Job}
 use Rattle.liszt_run.specs.Answers.{Prepares}
-use Rattle.liszt_run.proofs.Steps.{value_is, all_taken, ele_refused, no_usage}
+use Rattle.liszt_run.proofs.Steps.{value_is, job_text_is, all_taken, ele_refused, no_usage}
 use Rattle.liszt_run.proofs.inputs.prepare.Goals as goal
 
 pub returns-in_err-program-clause-only : goal.returns-in_err-program-clause-only
@@ -45,3 +45,7 @@ returns-clause-told g c files h =
     let h₂ = c.in_ok-points.ensures.held ∙ h₁ in
     let third = c.in_ok-mesh.ensures.told files h₂ in
     all_taken c.args.words.now files _ c.in_ok-program.program c.in_ok-points.points c.in_ok-mesh.mesh _ _ _ _ _ command first second third refl (value_is c.in_ok-program.program.first c.in_ok-program.program.add c.in_ok-program.ensures.bound) refl
+
+pub returns-clause-job : goal.returns-clause-job
+returns-clause-job g c =
+    (c.in_ok-program.program, c.in_ok-mesh.mesh, job_text_is c.in_ok-program.program c.in_ok-mesh.mesh _ refl (value_is c.in_ok-program.program.first c.in_ok-program.program.add c.in_ok-program.ensures.bound) refl)

@@ -1,15 +1,28 @@
-use Rattle.liszt_run.proofs.Steps.{told_job, told_refusal, causes_of}
+use Rattle.liszt_run.proofs.Steps.{told_job, told_refusal, wrote_job, wrote_refusal, causes_of}
 use Rattle.liszt_run.proofs.top.run.Goals as goal
 
 pub returns-in-Ok-clause-told : goal.returns-in-Ok-clause-told
 returns-in-Ok-clause-told g c files h =
-    told_job c.args.words.now files (g.F.Shelf.tally c.args.shelf.now) (g.F.Shelf.tally c.prepare.new.shelf) (g.S.Sink.taken c.args.out.now) (g.S.Sink.taken c.write_job.new.out)
-    c.in-Ok.job c.write_job.result c.ended_by.result (c.in-Ok.ensures.told files h) c.write_job.ensures.writes c.ended_by.ensures
+    told_job c.args.words.now files (g.F.Shelf.tally c.args.shelf.now) (g.F.Shelf.tally c.prepare.new.shelf) (g.F.Shelf.faults c.args.shelf.now) (g.F.Shelf.faults c.prepare.new.shelf)
+    (g.S.Sink.taken c.args.out.now) (g.S.Sink.taken c.write_job.new.out) c.in-Ok.job c.write_job.result c.ended_by.result (c.in-Ok.ensures.told files h) c.in-Ok.ensures.cause c.write_job.ensures.writes c.ended_by.ensures
+
+pub returns-in-Ok-clause-wrote : goal.returns-in-Ok-clause-wrote
+returns-in-Ok-clause-wrote g c =
+    let job = c.in-Ok.ensures.job in
+    wrote_job c.args.words.now (g.S.Sink.taken c.args.out.now) (g.S.Sink.taken c.write_job.new.out) _ job.0 job.1 c.write_job.result c.ended_by.result
+    (λ none. let usage = (c.in-Ok.ensures.usage none).0 in cc) job.2 c.write_job.ensures.writes c.ended_by.ensures
 
 pub returns-in-Err-clause-told : goal.returns-in-Err-clause-told
 returns-in-Err-clause-told g c files h =
-    told_refusal c.args.words.now files (g.F.Shelf.tally c.args.shelf.now) (g.F.Shelf.tally c.prepare.new.shelf) (g.S.Sink.taken c.args.out.now) (g.S.Sink.taken c.write_refusal.new.out)
-    c.in-Err.refusal c.write_refusal.result c.ended_by-in-Err.result (c.in-Err.ensures.told files h) c.write_refusal.ensures.writes c.ended_by-in-Err.ensures
+    told_refusal c.args.words.now files (g.F.Shelf.tally c.args.shelf.now) (g.F.Shelf.tally c.prepare.new.shelf) (g.F.Shelf.faults c.args.shelf.now) (g.F.Shelf.faults c.prepare.new.shelf)
+    (g.S.Sink.taken c.args.out.now) (g.S.Sink.taken c.write_refusal.new.out) c.in-Err.refusal c.write_refusal.result c.ended_by-in-Err.result
+    (c.in-Err.ensures.told files h) c.in-Err.ensures.cause c.write_refusal.ensures.writes c.ended_by-in-Err.ensures
+
+pub returns-in-Err-clause-wrote : goal.returns-in-Err-clause-wrote
+returns-in-Err-clause-wrote g c =
+    wrote_refusal c.args.words.now (g.F.Shelf.faults c.args.shelf.now) (g.F.Shelf.faults c.prepare.new.shelf) (g.S.Sink.taken c.args.out.now) (g.S.Sink.taken c.write_refusal.new.out)
+    c.in-Err.refusal c.write_refusal.result c.ended_by-in-Err.result
+    (λ none. let usage = (c.in-Err.ensures.usage none).0 in cc) c.in-Err.ensures.cause c.write_refusal.ensures.writes c.ended_by-in-Err.ensures
 
 pub returns-in-Err-clause-causes : goal.returns-in-Err-clause-causes
 returns-in-Err-clause-causes g c =

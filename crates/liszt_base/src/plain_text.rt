@@ -1,7 +1,8 @@
-ghost use Rattle.std.specs.Prelude.{◌≡◌, ℕ, ◌≤◌, List, IfSome, IfNone};
+ghost use Rattle.std.specs.Prelude.{◌≡◌, ◌≢◌, ℕ, ◌≤◌, List, ◌++◌, IfSome, IfNone};
 ghost use Rattle.std.specs.Option.{option_map};
 ghost use Rattle.std.specs.Char.{digit_value};
 ghost use Rattle.liszt_base.specs.Numbers.{BeginsWithNumber, number_at};
+ghost use Rattle.liszt_base.specs.Pieces.{after};
 
 /// The number at the front of `bytes`: one to nine digits, directly followed by the byte `end`, which is no digit.
 /// Gives its value and the bytes behind `end`, and `None` where no such number stands there.
@@ -35,4 +36,13 @@ fn leading_number(bytes: &[u8], end: u8) -> Option<(u32, &[u8])>
         rest = more;
     }
     None
+}
+
+/// What follows `piece` at the front of `bytes`, and `None` where they don't begin with it.
+pub fn rest_after<'a>(bytes: &'a [u8], piece: &[u8]) -> Option<&'a [u8]>
+    ensures found { IfSome result (λ rest. bytes.now ≡ piece.now ++ rest.now) }
+    ensures none { IfNone result ((rest : List ℕ) → bytes.now ≢ piece.now ++ rest) }
+    ensures exact { option_map (λ rest. rest.now) result ≡ after piece.now bytes.now }
+{
+    bytes.strip_prefix(piece)
 }

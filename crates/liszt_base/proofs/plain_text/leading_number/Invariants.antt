@@ -1,6 +1,6 @@
 use Rattle.std.proofs.Common.{◌≡◌, ◌<◌, ◌≤◌, ◌^◌, length}
 use Rattle.liszt_base.specs.Numbers.{number_after, number_at}
-use Rattle.liszt_base.proofs.plain_number.leading_number.Given as goal
+use Rattle.liszt_base.proofs.plain_text.leading_number.Given as goal
 
 abbrev pub invariant-loop-rest : goal.invariant-loop-rest
 invariant-loop-rest l =

@@ -1,5 +1,5 @@
 use Rattle.liszt_base.proofs.Numbers.{found, none}
-use Rattle.liszt_base.proofs.plain_number.number_before.Goals as goal
+use Rattle.liszt_base.proofs.plain_text.number_before.Goals as goal
 
 pub returns-clause-found : goal.returns-clause-found
 returns-clause-found c = found c.args.end c.args.bytes.now c.leading_number.result c.leading_number.ensures
