@@ -6,6 +6,7 @@ mod gate;
 mod mesh;
 mod plain_list;
 mod plain_text;
+mod shared;
 mod word_list;
 
 pub use answers::{Input, MeshFile, NoMemory, Refused};

@@ -1,0 +1,27 @@
+//! Which types threads may share, and move between one another.
+
+use crate::answers::{Input, MeshFile, NoMemory, Refused};
+use crate::gate::OpenGate;
+use crate::mesh::{CellList, Point, PointList, PointTable, RawCell, RawMesh};
+use crate::plain_list::ByteList;
+use crate::word_list::WordList;
+
+fn needs_shared<T: Send + Sync>() {}
+
+/// Each type of this crate may be shared: this compiles.
+#[allow(dead_code)]
+fn types_are_shared() {
+    needs_shared::<Input>();
+    needs_shared::<MeshFile>();
+    needs_shared::<NoMemory>();
+    needs_shared::<Refused<MeshFile>>();
+    needs_shared::<OpenGate>();
+    needs_shared::<Point>();
+    needs_shared::<RawCell>();
+    needs_shared::<PointList>();
+    needs_shared::<CellList>();
+    needs_shared::<PointTable>();
+    needs_shared::<RawMesh>();
+    needs_shared::<ByteList>();
+    needs_shared::<WordList>();
+}
