@@ -3,7 +3,7 @@ ghost use Rattle.liszt_io.specs.Causes.{HasCause};
 
 use crate::ended::{Ended, status_of};
 use crate::top::run_words;
-use liszt_base::{ByteList, Input, NoMemory, OpenGate, WordList};
+use liszt_base::{ByteList, Input, MeshFile, NoMemory, OpenGate, Refused, WordList};
 use liszt_io::{
     CallList, Failed, FileList, HeldFile, HostShelf, HostSink, MemoryShelf, MemorySink, Shelf, Sink,
 };
@@ -15,6 +15,7 @@ use std::rt::Files;
 use std::sync::Wait;
 use std::test::Fail;
 use std::thread::Threads;
+use tet_reader::read_plain_mesh;
 
 const PROGRAM: &str = "field A : Cell = 5;\nfor (c <- cells(mesh)) { A(c) += 2 }\n";
 
@@ -299,6 +300,32 @@ fn plain_eles(rt: HostRuntime) -> Result<(), Fail> {
         "later program\n",
         11,
     )?;
+    Ok(())
+}
+
+/// The reader of both files: what they spell, and the first file outside its form.
+#[test]
+fn both_files(rt: HostRuntime) -> Result<(), Fail> {
+    let alloc = rt.alloc();
+    let mesh = read_plain_mesh(alloc, NODE.as_bytes(), ELE.as_bytes()).map_err(|_| AllocError)?;
+    let points = mesh.points();
+    let cells = mesh.cells();
+    assert_eq!(&rt; points.len(), 5);
+    assert_eq!(&rt; points[4].x, 1_000_000);
+    assert_eq!(&rt; points[3].y, 0);
+    assert_eq!(&rt; points[3].z, 1_000_000);
+    assert_eq!(&rt; points[3].mark, 0);
+    assert_eq!(&rt; cells.len(), 2);
+    assert_eq!(&rt; cells[1].corners, [1, 2, 3, 4]);
+    assert_eq!(&rt; cells[1].region, 0);
+    assert_eq!(&rt; mesh.base(), 0);
+    for (node, ele, outside) in [(NODE, "", MeshFile::Ele), ("", "", MeshFile::Node)] {
+        let fault = match read_plain_mesh(alloc, node.as_bytes(), ele.as_bytes()) {
+            Err(Refused::Fault(file)) => Some(file),
+            _ => None,
+        };
+        assert_eq!(&rt; fault, Some(outside));
+    }
     Ok(())
 }
 
