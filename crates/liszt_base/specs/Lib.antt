@@ -1,3 +1,4 @@
+pub mod Corners
 pub mod MeshLists
 pub mod Numbers
 pub mod Pieces

@@ -50,3 +50,31 @@ pub enum MeshFile {
     Node,
     Ele,
 }
+
+/// What is wrong with a mesh's two files, as `docs/MESH-TEXT.md` says of each.
+#[derive(Clone, Copy, Debug, PartialEq, Eq)]
+pub enum MeshWhat {
+    Header,
+    BadNumber,
+    CoordRange,
+    Dimension,
+    SecondOrder,
+    NumberOrder,
+    Missing,
+    Extra,
+    CornerRange,
+    CornerTwice,
+    CellTwice,
+    FaceShared,
+    TooMany,
+}
+
+/// A fault of a mesh's two files: the file, the line, from 1 (0 in an empty file), and for `TooMany` the count that the
+/// header names, else 0.
+#[derive(Clone, Copy, Debug, PartialEq, Eq)]
+pub struct MeshFault {
+    pub file: MeshFile,
+    pub line: u32,
+    pub what: MeshWhat,
+    pub number: i64,
+}

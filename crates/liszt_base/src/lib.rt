@@ -2,6 +2,7 @@
 #![tactic(auto)]
 
 mod answers;
+mod elements;
 mod gate;
 mod mesh;
 mod plain_list;
@@ -9,7 +10,8 @@ mod plain_text;
 mod shared;
 mod word_list;
 
-pub use answers::{Input, MeshFile, NoMemory, Refused};
+pub use answers::{Input, MeshFault, MeshFile, MeshWhat, NoMemory, Refused};
+pub use elements::{Elem, Kind, SetName};
 pub use gate::{Gate, OpenGate};
 pub use mesh::{CellList, Point, PointList, PointTable, RawCell, RawMesh};
 pub use plain_list::{ByteList, PlainList};

@@ -1,6 +1,7 @@
 //! Which types threads may share, and move between one another.
 
-use crate::answers::{Input, MeshFile, NoMemory, Refused};
+use crate::answers::{Input, MeshFault, MeshFile, MeshWhat, NoMemory, Refused};
+use crate::elements::{Elem, Kind, SetName};
 use crate::gate::OpenGate;
 use crate::mesh::{CellList, Point, PointList, PointTable, RawCell, RawMesh};
 use crate::plain_list::ByteList;
@@ -13,6 +14,11 @@ fn needs_shared<T: Send + Sync>() {}
 fn types_are_shared() {
     needs_shared::<Input>();
     needs_shared::<MeshFile>();
+    needs_shared::<MeshWhat>();
+    needs_shared::<MeshFault>();
+    needs_shared::<Kind>();
+    needs_shared::<Elem>();
+    needs_shared::<SetName>();
     needs_shared::<NoMemory>();
     needs_shared::<Refused<MeshFile>>();
     needs_shared::<OpenGate>();

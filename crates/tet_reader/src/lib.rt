@@ -6,6 +6,7 @@
 //! of four different points. Row numbers begin at 0 or 1 and run on by one, and nothing stands after the last row.
 #![tactic(auto)]
 
+mod cases;
 pub mod laws;
 mod plain_cells;
 mod plain_mesh;

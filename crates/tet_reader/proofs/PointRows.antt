@@ -1,0 +1,112 @@
+-- A point's row: its tests find nothing exactly where it is some point's row, and it is that of one point.
+use Rattle.std.proofs.Common.{◌≡◌, ℕ, List, [], ◌∷◌, ◌++◌, length, replicate, slice_index_or, refl, sym, ap, subst, ◌∙◌, append_assoc}
+use Rattle.std.proofs.Common.{arith}
+use Rattle.std.specs.Prelude.{ℤ, pos, Ok}
+use Rattle.std.specs.List.{AllZip}
+use Rattle.std.proofs.lemmas.List.{length-append}
+use Rattle.liszt_base.specs.declared.mesh.Point.{Point}
+use Rattle.text_scan.specs.Numbers.{whole_of, millionths_of}
+use Rattle.tet_reader.specs.Tests.{Real, Marker}
+use Rattle.tet_reader.specs.Points.{IsPointRow, first_or_zero}
+use Rattle.tet_reader.specs.Faults.{point_words}
+use Rattle.tet_reader.proofs.Tests.{Passes, zip_append, append_zip, number_takes, number_again, real_takes, real_again, marker_takes}
+use Rattle.tet_reader.proofs.Tests.{marker_again}
+use Rattle.tet_reader.proofs.Spelling.{same_parts, spell_length, one_spelling, spell_takes, spell_again}
+
+-- points are the same by their fields
+same_point : (x y z mark x' y' z' mark' : ℤ) → x ≡ x' → y ≡ y' → z ≡ z' → mark ≡ mark'
+    → ◌≡◌ {A = Point} (record { x = x; y = y; z = z; mark = mark }) (record { x = x'; y = y'; z = z'; mark = mark' })
+same_point x y z mark x' y' z' mark' p q r s =
+    let one : ◌≡◌ {A = Point} (record { x = x; y = y; z = z; mark = mark }) (record { x = x'; y = y; z = z; mark = mark }) =
+    ap (λ (v : ℤ). record { x = v; y = y; z = z; mark = mark }) p in
+    let two : ◌≡◌ {A = Point} (record { x = x'; y = y; z = z; mark = mark }) (record { x = x'; y = y'; z = z; mark = mark }) =
+    ap (λ (v : ℤ). record { x = x'; y = v; z = z; mark = mark }) q in
+    let three : ◌≡◌ {A = Point} (record { x = x'; y = y'; z = z; mark = mark }) (record { x = x'; y = y'; z = z'; mark = mark }) =
+    ap (λ (v : ℤ). record { x = x'; y = y'; z = v; mark = mark }) r in
+    one ∙ (two ∙ (three ∙ ap (λ (v : ℤ). record { x = x'; y = y'; z = z'; mark = v }) s))
+
+-- a row of so many attributes and markers is that of one point, whatever its number
+pub one_point : (attributes markers k l : ℕ) (words : List (List ℕ)) (p q : Point) → IsPointRow attributes markers k words p
+    → IsPointRow attributes markers l words q → p ≡ q
+one_point attributes markers k l words p q h i =
+    let front : List (List ℕ) = h.coordinate_words ++ h.attribute_words in
+    let front' : List (List ℕ) = i.coordinate_words ++ i.attribute_words in
+    let all : h.number_word ∷ (front ++ h.marker_words) ≡ i.number_word ∷ (front' ++ i.marker_words) = sym h.words_are ∙ i.words_are in
+    let rest : front ++ h.marker_words ≡ front' ++ i.marker_words = cc (all) in
+    let three = spell_length millionths_of h.coordinate_words (p.x ∷ p.y ∷ p.z ∷ []) h.coordinates_are in
+    let three' = spell_length millionths_of i.coordinate_words (q.x ∷ q.y ∷ q.z ∷ []) i.coordinates_are in
+    let mine = length-append h.coordinate_words h.attribute_words in
+    let theirs = length-append i.coordinate_words i.attribute_words in
+    let count : length front ≡ length front' = omega (arith, mine, theirs, three, three', h.attributes_count, i.attributes_count) in
+    let outer = same_parts front h.marker_words front' i.marker_words count rest in
+    let inner = same_parts h.coordinate_words h.attribute_words i.coordinate_words i.attribute_words (three ∙ sym three') outer.0 in
+    let xyz = one_spelling millionths_of h.coordinate_words i.coordinate_words
+    (p.x ∷ p.y ∷ p.z ∷ []) (q.x ∷ q.y ∷ q.z ∷ []) inner.0 h.coordinates_are i.coordinates_are in
+    let marks = one_spelling whole_of h.marker_words i.marker_words h.marker_numbers i.marker_numbers outer.1 h.markers_are i.markers_are in
+    same_point p.x p.y p.z p.mark q.x q.y q.z q.mark (cc (xyz)) (cc (xyz)) (cc (xyz)) (h.mark_is ∙ (ap first_or_zero marks ∙ sym i.mark_is))
+
+-- a list of three numbers by its members
+three_numbers : (numbers : List ℤ) → length numbers ≡ 3 → (x y z : ℤ) × (numbers ≡ x ∷ y ∷ z ∷ [])
+three_numbers [] e = absurd (omega arith)
+three_numbers (x ∷ []) e = absurd (omega arith)
+three_numbers (x ∷ y ∷ []) e = absurd (omega arith)
+three_numbers (x ∷ y ∷ z ∷ []) e = (x, y, z, refl)
+three_numbers (x ∷ y ∷ z ∷ w ∷ numbers) e = absurd (omega arith)
+
+-- words that pass are a point's row
+pub point_takes : (attributes markers number : ℕ) (words : List (List ℕ)) → AllZip Passes (point_words attributes markers number) words
+    → (point : Point) × IsPointRow attributes markers number words point
+point_takes attributes markers number [] h = absurd h
+point_takes attributes markers number (word ∷ words) h =
+    let c = append_zip Passes (replicate 3 Real) (replicate attributes Real ++ replicate markers Marker) words h.1 in
+    let d = append_zip Passes (replicate attributes Real) (replicate markers Marker) c.1 c.4 in
+    let coordinates = spell_takes Real millionths_of (λ w e. real_takes (millionths_of w) e) 3 c.0 c.3 in
+    let attributes' = spell_takes Real millionths_of (λ w e. real_takes (millionths_of w) e) attributes d.0 d.3 in
+    let markers' = spell_takes Marker whole_of (λ w e. marker_takes (whole_of w) e) markers d.1 d.4 in
+    let xyz = three_numbers coordinates.0 (sym (spell_length millionths_of c.0 coordinates.0 coordinates.1) ∙ coordinates.2) in
+    let point : Point = record { x = xyz.0; y = xyz.1; z = xyz.2; mark = first_or_zero markers'.0 } in
+    let parts : words ≡ (c.0 ++ d.0) ++ d.1 = c.2 ∙ (ap (λ l. c.0 ++ l) d.2 ∙ sym (append_assoc c.0 d.0 d.1)) in (
+      point,
+      record {
+        number_word = word;
+        coordinate_words = c.0;
+        attribute_words = d.0;
+        marker_words = d.1;
+        attribute_numbers = attributes'.0;
+        marker_numbers = markers'.0;
+        words_are = ap (λ l. word ∷ l) parts;
+        number_is = number_takes number (whole_of word) h.0;
+        coordinates_are = cc (coordinates.1, xyz.3);
+        attributes_are = attributes'.1;
+        markers_are = markers'.1;
+        attributes_count = attributes'.2;
+        markers_count = markers'.2;
+        mark_is = refl;
+      },
+    )
+
+-- a point's row passes
+pub point_again : (attributes markers number : ℕ) (words : List (List ℕ)) (point : Point)
+    → IsPointRow attributes markers number words point → AllZip Passes (point_words attributes markers number) words
+point_again attributes markers number words point h =
+    let three = spell_length millionths_of h.coordinate_words (point.x ∷ point.y ∷ point.z ∷ []) h.coordinates_are in
+    let coordinates = spell_again Real millionths_of (λ w z e. real_again z (millionths_of w) e) 3 h.coordinate_words
+    (point.x ∷ point.y ∷ point.z ∷ []) h.coordinates_are three in
+    let attributes' = spell_again Real millionths_of (λ w z e. real_again z (millionths_of w) e) attributes h.attribute_words
+    h.attribute_numbers h.attributes_are h.attributes_count in
+    let markers' = spell_again Marker whole_of (λ w z e. marker_again z (whole_of w) e) markers h.marker_words h.marker_numbers
+    h.markers_are h.markers_count in
+    let rest =
+    zip_append Passes (replicate attributes Real) (replicate markers Marker) h.attribute_words h.marker_words attributes' markers' in
+    let all = zip_append Passes (replicate 3 Real) (replicate attributes Real ++ replicate markers Marker) h.coordinate_words
+    (h.attribute_words ++ h.marker_words) coordinates rest in
+    let parts : words ≡ h.number_word ∷ (h.coordinate_words ++ (h.attribute_words ++ h.marker_words)) =
+    h.words_are ∙ ap (λ l. h.number_word ∷ l) (append_assoc h.coordinate_words h.attribute_words h.marker_words) in
+    let number' = number_again number (whole_of h.number_word) h.number_is in
+    subst (λ (l : List (List ℕ)). AllZip Passes (point_words attributes markers number) l) (sym parts) (number', all)
+
+-- the first word of a point's row is its number
+pub point_number : (attributes markers number : ℕ) (words : List (List ℕ)) (point : Point)
+    → IsPointRow attributes markers number words point → whole_of (slice_index_or words 0 []) ≡ Ok (pos number)
+point_number attributes markers number words point h =
+    ap (λ (l : List (List ℕ)). whole_of (slice_index_or l 0 [])) h.words_are ∙ h.number_is

@@ -1,0 +1,68 @@
+-- Words that spell numbers, and the parts of a row.
+use Rattle.std.proofs.Common.{◌≡◌, ℕ, zero, suc, None, List, [], ◌∷◌, ◌++◌, map, length, replicate, refl, sym, ap, ◌∙◌, arith}
+use Rattle.std.specs.Prelude.{ℤ, Result, Ok}
+use Rattle.std.specs.List.{AllZip}
+use Rattle.std.proofs.lemmas.List.{length-map}
+use Rattle.text_scan.specs.declared.faults.NumberFault.{NumberFault}
+use Rattle.tet_reader.specs.Tests.{Word, word_test}
+use Rattle.tet_reader.specs.Points.{Spell}
+use Rattle.tet_reader.proofs.Tests.{Passes}
+
+-- lists with the same members after a function that keeps members apart are the same
+pub same_by_map : {A B : Type 0} (f : A → B) → ((x y : A) → f x ≡ f y → x ≡ y) → (xs ys : List A) → map f xs ≡ map f ys → xs ≡ ys
+same_by_map f apart [] [] e = refl
+same_by_map f apart [] (y ∷ ys) e = cc
+same_by_map f apart (x ∷ xs) [] e = cc
+same_by_map f apart (x ∷ xs) (y ∷ ys) e =
+    let one : f x ≡ f y = cc in
+    let more : map f xs ≡ map f ys = cc in
+    cc (apart x y one, same_by_map f apart xs ys more)
+
+-- two partings of one list with first parts of one length are the same
+pub same_parts : {A : Type 0} (xs ys us vs : List A) → length xs ≡ length us → xs ++ ys ≡ us ++ vs → (xs ≡ us) × (ys ≡ vs)
+same_parts [] ys [] vs l e = (refl, e)
+same_parts [] ys (u ∷ us) vs l e = absurd (omega arith)
+same_parts (x ∷ xs) ys [] vs l e = absurd (omega arith)
+same_parts (x ∷ xs) ys (u ∷ us) vs l e =
+    let one : x ≡ u = cc in
+    let rest : xs ++ ys ≡ us ++ vs = cc in
+    let more = same_parts xs ys us vs (omega arith) rest in
+    (cc (one, more.0), more.1)
+
+-- there are as many words as numbers
+pub spell_length : (read : List ℕ → Result ℤ NumberFault) (words : List (List ℕ)) (numbers : List ℤ) → Spell read words numbers
+    → length words ≡ length numbers
+spell_length read words numbers e = sym (length-map words read) ∙ (ap length e ∙ length-map numbers (λ z. Ok z))
+
+-- words spell one list of numbers
+pub one_spelling : (read : List ℕ → Result ℤ NumberFault) (words others : List (List ℕ)) (ms ns : List ℤ) → words ≡ others
+    → Spell read words ms → Spell read others ns → ms ≡ ns
+one_spelling read words others ms ns e p q =
+    let okay : ℤ → Result ℤ NumberFault = λ z. Ok z in
+    same_by_map okay (λ x y h. cc) ms ns (sym p ∙ (ap (map read) e ∙ q))
+
+-- so many words that pass a test spell so many numbers, and words that spell numbers pass it
+pub spell_takes : (wanted : Word) (read : List ℕ → Result ℤ NumberFault)
+    → ((word : List ℕ) → word_test wanted word ≡ None → (z : ℤ) × (read word ≡ Ok z))
+    → (n : ℕ) (words : List (List ℕ)) → AllZip Passes (replicate n wanted) words
+    → (numbers : List ℤ) × Spell read words numbers × (length words ≡ n)
+spell_takes wanted read takes zero [] h = ([], refl, refl)
+spell_takes wanted read takes zero (word ∷ words) h = absurd h
+spell_takes wanted read takes (suc n) [] h = absurd h
+spell_takes wanted read takes (suc n) (word ∷ words) h =
+    let one = takes word h.0 in
+    let more = spell_takes wanted read takes n words h.1 in
+    (one.0 ∷ more.0, cc (one.1, more.1), ap suc more.2)
+
+pub spell_again : (wanted : Word) (read : List ℕ → Result ℤ NumberFault)
+    → ((word : List ℕ) (z : ℤ) → read word ≡ Ok z → word_test wanted word ≡ None)
+    → (n : ℕ) (words : List (List ℕ)) (numbers : List ℤ) → Spell read words numbers → length words ≡ n
+    → AllZip Passes (replicate n wanted) words
+spell_again wanted read again zero [] numbers e l = tt
+spell_again wanted read again zero (word ∷ words) numbers e l = absurd (omega arith)
+spell_again wanted read again (suc n) [] numbers e l = absurd (omega arith)
+spell_again wanted read again (suc n) (word ∷ words) [] e l = cc
+spell_again wanted read again (suc n) (word ∷ words) (z ∷ numbers) e l =
+    let one : read word ≡ Ok z = cc in
+    let more : Spell read words numbers = cc in
+    (again word z one, spell_again wanted read again n words numbers more (omega arith))

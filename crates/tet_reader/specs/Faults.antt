@@ -1,0 +1,113 @@
+-- The first fault of a mesh's two files, in the order of their lines and of the tests of one line. This project's own.
+use Rattle.std.specs.Prelude.{ℕ, ◌+◌, ◌-◌, nat_le, if◌then◌else◌, Bool, false, Option, Some, None, List, [], ◌∷◌, ◌++◌, map, take, drop, length, ℤ, pos, nat_abs, Result, Ok, Err, replicate, slice_index_or}
+use Rattle.std.specs.List.{zip, enumerate_from}
+use Rattle.std.specs.Option.{option_map}
+use Rattle.liszt_base.specs.Corners.{are_different, along, comes_again, is_third}
+use Rattle.liszt_base.specs.declared.answers.MeshFault.{MeshFault}
+use Rattle.liszt_base.specs.declared.answers.MeshFile.{MeshFile}
+use Rattle.liszt_base.specs.declared.answers.MeshFile.TheVariants.{Node, Ele}
+use Rattle.liszt_base.specs.declared.answers.MeshWhat.{MeshWhat}
+use Rattle.liszt_base.specs.declared.answers.MeshWhat.TheVariants.{Header, Missing, CornerTwice, CellTwice, FaceShared, TooMany}
+use Rattle.text_scan.specs.Numbers.{whole_of}
+use Rattle.text_scan.specs.Rows.{Row, TextRows, text_rows}
+use Rattle.text_scan.specs.declared.faults.NumberFault.{NumberFault}
+use Rattle.tet_reader.specs.Headers.{node_numbers, ele_numbers, node_header_tests, ele_header_tests, number_at}
+use Rattle.tet_reader.specs.Tests.{Word, Number, Real, Marker, Corner, first, unless, is_within, row_tests}
+
+-- the count that a fault tells: the header's for TooMany, else 0
+abbrev pub told_count : MeshWhat → ℤ → ℤ
+told_count TooMany count = count
+told_count _ count = pos 0
+
+-- a fault of a line
+abbrev pub fault_at : MeshFile → ℤ → ℕ → MeshWhat → MeshFault
+fault_at file count line what = record { file = file; line = line; what = what; number = told_count what count }
+
+-- the number that a word spells, without its sign, and 0 where it spells none
+abbrev pub size_of : Result ℤ NumberFault → ℕ
+size_of (Ok z) = nat_abs z
+size_of (Err fault) = 0
+
+abbrev pub is_one : Result ℤ NumberFault → Bool
+is_one (Ok z) = is_within 1 1 z
+is_one (Err fault) = false
+
+-- the number that the first row should have: 1 where it has that, and else 0
+abbrev pub first_number : List Row → ℕ
+first_number [] = 0
+first_number (row ∷ rows) = if is_one (whole_of (slice_index_or row.words 0 [])) then 1 else 0
+
+-- the words that a point's row should have, and a cell's
+abbrev pub point_words : ℕ → ℕ → ℕ → List Word
+point_words attributes markers number = Number number ∷ Real ∷ Real ∷ Real ∷ (replicate attributes Real ++ replicate markers Marker)
+
+abbrev pub cell_words : ℕ → ℕ → ℕ → ℕ → List Word
+cell_words attributes points base number =
+    Number number ∷ Corner base points ∷ Corner base points ∷ Corner base points ∷ Corner base points ∷ replicate attributes Real
+
+-- the corners of a cell's row, as places of points
+abbrev pub row_corners : ℕ → List (List ℕ) → List ℕ
+row_corners base words = map (λ word. size_of (whole_of word) - base) (take 4 (drop 1 words))
+
+-- what the first of the tests of a line finds, by its line
+abbrev pub line_fault : MeshFile → ℤ → ℕ → List (Option MeshWhat) → Option MeshFault
+line_fault file count line tests = option_map (fault_at file count line) (first tests)
+
+-- The tests of a file line by line: the header, each further row by its place from 0, and, at the last line, whether a row
+-- is missing.
+abbrev pub file_tests : MeshFile → ℤ → List (Option MeshWhat) → (ℕ → List (List ℕ) → List (Option MeshWhat)) → ℕ → Row → List Row → List (Option MeshFault)
+file_tests file count header_tests tests last header rows =
+    line_fault file count header.line header_tests
+    ∷ (map (λ r. line_fault file count r.1.line (tests r.0 r.1.words)) (enumerate_from 0 rows)
+    ++ line_fault file count last (unless (nat_le (nat_abs count) (length rows)) Missing ∷ []) ∷ [])
+
+-- NODE FILE
+abbrev pub node_row_tests : List ℤ → ℕ → ℕ → List (List ℕ) → List (Option MeshWhat)
+node_row_tests numbers base place words =
+    row_tests (nat_abs (number_at numbers 0)) place
+    (point_words (nat_abs (number_at numbers 2)) (nat_abs (number_at numbers 3)) (base + place)) words
+
+abbrev pub node_tests : ℕ → List Row → List (Option MeshFault)
+node_tests last [] = Some (fault_at Node (pos 0) last Header) ∷ []
+node_tests last (header ∷ rows) =
+    let numbers : List ℤ = node_numbers header.words in
+    file_tests Node (number_at numbers 0) (node_header_tests header.words) (node_row_tests numbers (first_number rows)) last header rows
+
+abbrev pub node_fault : TextRows → Option MeshFault
+node_fault text = first (node_tests text.last_line text.rows)
+
+-- ELE FILE over so many points, the first of which has the number base
+abbrev pub ele_row_tests : ℕ → ℕ → List ℤ → ℕ → ℕ → List (List ℕ) → List (Option MeshWhat)
+ele_row_tests points base numbers own place words =
+    row_tests (nat_abs (number_at numbers 0)) place (cell_words (nat_abs (number_at numbers 2)) points base (own + place)) words
+    ++ unless (are_different (row_corners base words)) CornerTwice ∷ []
+
+abbrev pub ele_tests : ℕ → ℕ → ℕ → List Row → List (Option MeshFault)
+ele_tests points base last [] = Some (fault_at Ele (pos 0) last Header) ∷ []
+ele_tests points base last (header ∷ rows) =
+    let numbers : List ℤ = ele_numbers header.words in
+    file_tests Ele (number_at numbers 0) (ele_header_tests header.words) (ele_row_tests points base numbers (first_number rows)) last header rows
+
+abbrev pub ele_fault : ℕ → ℕ → TextRows → Option MeshFault
+ele_fault points base text = first (ele_tests points base text.last_line text.rows)
+
+-- WHOLE MESH
+-- a fault of a cell's line, where the test passes
+abbrev pub cell_fault : MeshWhat → Bool × Row → Option MeshFault
+cell_fault what cell = if cell.0 then Some (fault_at Ele (pos 0) cell.1.line what) else None
+
+-- first a cell that comes twice, at the least such line, and then a cell that is the third with some face
+abbrev pub whole_tests : ℕ → List Row → List (Option MeshFault)
+whole_tests base rows =
+    let cells : List (List ℕ) = map (λ row. row_corners base row.words) rows in
+    map (cell_fault CellTwice) (zip (along comes_again [] cells) rows) ++ map (cell_fault FaceShared) (zip (along is_third [] cells) rows)
+
+-- BOTH FILES: the node file, then the ele file over its points, of which there are as many as rows behind the header where
+-- the node file has no fault, then the whole mesh
+abbrev pub mesh_fault : TextRows → TextRows → Option MeshFault
+mesh_fault node ele =
+    let base : ℕ = first_number (drop 1 node.rows) in
+    first (node_fault node ∷ ele_fault (length (drop 1 node.rows)) base ele ∷ whole_tests base (drop 1 ele.rows))
+
+abbrev pub first_mesh_fault : List ℕ → List ℕ → Option MeshFault
+first_mesh_fault node ele = mesh_fault (text_rows node) (text_rows ele)

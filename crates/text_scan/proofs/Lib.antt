@@ -1,0 +1,4 @@
+pub mod Cuts
+pub mod Meaning
+pub mod Splits
+pub mod RowLaws

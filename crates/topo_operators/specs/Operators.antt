@@ -1,0 +1,128 @@
+-- The oriented operators and the sets of elements. The operators are the Liszt paper's (DeVito et al., Supercomputing
+-- 2011); which orientation is which, nil and the orders are this project's own.
+use Rattle.std.specs.Prelude.{◌≡◌, ℕ, ◌<◌, ◌==◌, ◌&&◌, not, nat_lt, if◌then◌else◌, Bool, true, false, Option, Some, None, List, [], ◌∷◌, map, reverse, slice_get, slice_index, unwrap_or, is_some}
+use Rattle.std.specs.List.{find}
+use Rattle.std.specs.Option.{option_and_then, option_map}
+use Rattle.liszt_base.specs.MeshLists.{MeshLists}
+use Rattle.liszt_base.specs.declared.elements.Elem.{Elem}
+use Rattle.liszt_base.specs.declared.elements.Kind.{Kind}
+use Rattle.liszt_base.specs.declared.elements.Kind.TheVariants.{Vertex, Edge, Face, Cell}
+use Rattle.liszt_base.specs.declared.elements.SetName.{SetName}
+use Rattle.liszt_base.specs.declared.elements.SetName.TheVariants.{Vertices, Edges, Faces, Cells, EdgesCcw}
+use Rattle.mesh_topology.specs.Elements.{count, corners, id_of_corners, near, sides, begun_at, steps, face_cycle}
+
+-- An element as an operator takes it and gives it; nil is `None`.
+abbrev pub unflipped : Kind → ℕ → Elem
+unflipped kind id = record { kind = kind; id = id; flipped = false }
+
+abbrev pub turned : Elem → Elem
+turned x = record { kind = x.kind; id = x.id; flipped = not x.flipped }
+
+-- edges and faces have two orientations
+abbrev pub has_orientations : Kind → Bool
+has_orientations Edge = true
+has_orientations Face = true
+has_orientations _ = false
+
+-- an element of the mesh: the id is in range, and neither a vertex nor a cell is flipped
+pub record IsOf (mesh : MeshLists) (x : Elem) : Type 0 where
+  pub in_range : x.id < count mesh x.kind
+  pub oriented : has_orientations x.kind ≡ false → x.flipped ≡ false
+
+-- ENDS. An unflipped edge goes from its lesser corner, the tail, to the other, the head. Of an unflipped face the inside is
+-- the first of the cells beside it, and the outside the second, or nil. Flipped it is the other way round.
+abbrev pub vertex_at : MeshLists → Elem → ℕ → Option Elem
+vertex_at mesh edge place = option_map (unflipped Vertex) (slice_get (corners mesh Edge edge.id) place)
+
+abbrev pub cell_at : MeshLists → Elem → ℕ → Option Elem
+cell_at mesh face place = option_map (unflipped Cell) (slice_get (sides mesh face.id) place)
+
+abbrev pub tail_of : MeshLists → Elem → Option Elem
+tail_of mesh edge = vertex_at mesh edge (if edge.flipped then 1 else 0)
+
+abbrev pub head_of : MeshLists → Elem → Option Elem
+head_of mesh edge = vertex_at mesh edge (if edge.flipped then 0 else 1)
+
+abbrev pub inside_of : MeshLists → Elem → Option Elem
+inside_of mesh face = cell_at mesh face (if face.flipped then 1 else 0)
+
+abbrev pub outside_of : MeshLists → Elem → Option Elem
+outside_of mesh face = cell_at mesh face (if face.flipped then 0 else 1)
+
+-- OPERATORS. Of nil each is nil.
+abbrev pub tail : MeshLists → Option Elem → Option Elem
+tail mesh x = option_and_then (tail_of mesh) x
+
+abbrev pub head : MeshLists → Option Elem → Option Elem
+head mesh x = option_and_then (head_of mesh) x
+
+abbrev pub inside : MeshLists → Option Elem → Option Elem
+inside mesh x = option_and_then (inside_of mesh) x
+
+abbrev pub outside : MeshLists → Option Elem → Option Elem
+outside mesh x = option_and_then (outside_of mesh) x
+
+-- an edge reversed, or a face with its cycle reversed and its sides swapped
+abbrev pub flip : Option Elem → Option Elem
+flip x = option_map turned x
+
+-- elements are the same where their kind and id are, whatever their orientation, and nil is the same as nil alone
+abbrev pub is_kind : Kind → Kind → Bool
+is_kind Vertex Vertex = true
+is_kind Edge Edge = true
+is_kind Face Face = true
+is_kind Cell Cell = true
+is_kind _ _ = false
+
+abbrev pub same : Option Elem → Option Elem → Bool
+same None None = true
+same (Some x) (Some y) = is_kind x.kind y.kind && (x.id == y.id)
+same _ _ = false
+
+abbrev pub valid : Option Elem → Bool
+valid x = is_some x
+
+-- what an orientation points to: an edge to its head, a face to its outside
+abbrev pub points_to : MeshLists → Elem → Option Elem
+points_to mesh x = orientation x.kind where
+  orientation : Kind → Option Elem
+  orientation Edge = head_of mesh x
+  orientation Face = outside_of mesh x
+  orientation _ = None
+
+-- both orientations of an edge or a face
+abbrev pub orientations : Elem → List Elem
+orientations x = unflipped x.kind x.id ∷ turned (unflipped x.kind x.id) ∷ []
+
+-- the orientation of x that points to this element, or nil where neither does
+abbrev pub towards_of : MeshLists → Elem → Elem → Option Elem
+towards_of mesh x to = find (λ orientation. same (points_to mesh orientation) (Some to)) (orientations x)
+
+abbrev pub towards : MeshLists → Option Elem → Option Elem → Option Elem
+towards mesh x to = option_and_then (λ x'. option_and_then (towards_of mesh x') to) x
+
+-- SETS. The edges of a face in its cycle's order from the least corner on, each oriented along the cycle; a flipped face
+-- has the cycle reversed.
+abbrev pub cycle_of : MeshLists → Elem → List ℕ
+cycle_of mesh face =
+    if face.flipped then begun_at (slice_index (corners mesh Face face.id) 0) (reverse (face_cycle mesh face.id)) else face_cycle mesh face.id
+
+abbrev pub edge_along : MeshLists → ℕ × ℕ → Elem
+edge_along mesh step =
+    record { kind = Edge; id = unwrap_or (id_of_corners mesh Edge (step.0 ∷ step.1 ∷ [])) 0; flipped = nat_lt step.1 step.0 }
+
+-- the members of a set of an element: those near it, unflipped, by ascending id, or the edges of its cycle
+abbrev pub members : MeshLists → SetName → Elem → List Elem
+members mesh Vertices x = map (unflipped Vertex) (near mesh x.kind x.id Vertex)
+members mesh Edges x = map (unflipped Edge) (near mesh x.kind x.id Edge)
+members mesh Faces x = map (unflipped Face) (near mesh x.kind x.id Face)
+members mesh Cells x = map (unflipped Cell) (near mesh x.kind x.id Cell)
+members mesh EdgesCcw x = map (edge_along mesh) (steps (cycle_of mesh x))
+
+-- which sets an element of a kind has
+abbrev pub has_set : Kind → SetName → Bool
+has_set Edge Edges = false
+has_set Face Faces = false
+has_set Face EdgesCcw = true
+has_set _ EdgesCcw = false
+has_set _ _ = true

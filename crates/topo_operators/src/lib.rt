@@ -1,0 +1,5 @@
+//! The oriented operators on the elements of a mesh, and the sets of an element.
+#![tactic(auto)]
+
+mod cases;
+pub mod laws;
