@@ -78,3 +78,35 @@ pub struct MeshFault {
     pub what: MeshWhat,
     pub number: i64,
 }
+
+/// A place in a program's text: its line and its byte in that line, both from 1. LF alone ends a line.
+#[derive(Clone, Copy, Debug, PartialEq, Eq)]
+pub struct Place {
+    pub line: u32,
+    pub col: u32,
+}
+
+/// What is wrong with a program, as `docs/LANGUAGE.md` says of each.
+#[derive(Clone, Copy, Debug, PartialEq, Eq)]
+pub enum ProgramWhat {
+    BadByte,
+    LongNumber,
+    LongName,
+    Big,
+    Syntax,
+    Deep,
+    NameUnknown,
+    NameTwice,
+    TypeMismatch,
+    PhaseConflict,
+    ScalarWrite,
+    BuiltinWrite,
+}
+
+/// A fault of a program: what, where, and for `PhaseConflict` the place of the first access.
+#[derive(Clone, Copy, Debug, PartialEq, Eq)]
+pub struct ProgramFault {
+    pub what: ProgramWhat,
+    pub place: Place,
+    pub first: Option<Place>,
+}

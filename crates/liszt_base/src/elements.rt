@@ -25,3 +25,15 @@ pub enum SetName {
     Cells,
     EdgesCcw,
 }
+
+/// The operators of a reduction.
+#[derive(Clone, Copy, Debug, PartialEq, Eq)]
+pub enum Op {
+    Add,
+    Mul,
+    And,
+    Or,
+    Xor,
+    Min,
+    Max,
+}

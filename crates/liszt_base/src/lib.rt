@@ -10,8 +10,10 @@ mod plain_text;
 mod shared;
 mod word_list;
 
-pub use answers::{Input, MeshFault, MeshFile, MeshWhat, NoMemory, Refused};
-pub use elements::{Elem, Kind, SetName};
+pub use answers::{
+    Input, MeshFault, MeshFile, MeshWhat, NoMemory, Place, ProgramFault, ProgramWhat, Refused,
+};
+pub use elements::{Elem, Kind, Op, SetName};
 pub use gate::{Gate, OpenGate};
 pub use mesh::{CellList, Point, PointList, PointTable, RawCell, RawMesh};
 pub use plain_list::{ByteList, PlainList};

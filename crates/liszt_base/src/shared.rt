@@ -1,7 +1,9 @@
 //! Which types threads may share, and move between one another.
 
-use crate::answers::{Input, MeshFault, MeshFile, MeshWhat, NoMemory, Refused};
-use crate::elements::{Elem, Kind, SetName};
+use crate::answers::{
+    Input, MeshFault, MeshFile, MeshWhat, NoMemory, Place, ProgramFault, ProgramWhat, Refused,
+};
+use crate::elements::{Elem, Kind, Op, SetName};
 use crate::gate::OpenGate;
 use crate::mesh::{CellList, Point, PointList, PointTable, RawCell, RawMesh};
 use crate::plain_list::ByteList;
@@ -16,6 +18,10 @@ fn types_are_shared() {
     needs_shared::<MeshFile>();
     needs_shared::<MeshWhat>();
     needs_shared::<MeshFault>();
+    needs_shared::<Place>();
+    needs_shared::<ProgramWhat>();
+    needs_shared::<ProgramFault>();
+    needs_shared::<Op>();
     needs_shared::<Kind>();
     needs_shared::<Elem>();
     needs_shared::<SetName>();

@@ -1,1 +1,10 @@
+pub mod FaultCases
+pub mod Faults
+pub mod FewNodes
+pub mod OneExpression
+pub mod OneFault
+pub mod OneStatement
+pub mod OneTree
 pub mod PlainLaws
+pub mod Programs
+pub mod Sorts

@@ -1,4 +1,4 @@
--- The meshes of the worked cases.
+-- The meshes of the worked cases. This project's own.
 use Rattle.std.specs.Prelude.{ℕ, [], ◌∷◌, pos, replicate}
 use Rattle.liszt_base.specs.MeshLists.{MeshLists}
 use Rattle.liszt_base.specs.declared.mesh.Point.{Point}

@@ -1,4 +1,5 @@
-//! The elements of a tetrahedral mesh: which there are, how they are numbered, and which lie beside which.
+//! The elements of a tetrahedral mesh: the definitions of which there are, how they are numbered, and which lie beside which,
+//! with their laws.
 #![tactic(auto)]
 
 mod cases;

@@ -1,4 +1,4 @@
--- The node files of the worked cases.
+-- The node files of the worked cases. This project's own.
 use Rattle.std.specs.Prelude.{ℕ, List, codes}
 
 abbrev pub five_points : List ℕ

@@ -1,4 +1,5 @@
-//! The plain form of a mesh's two files, read whole or refused.
+//! The plain form of a mesh's two files, read whole or refused. Beside it stand the definitions of the full form, of its first
+//! fault and their laws; their reader comes next.
 //!
 //! Both are text. Every line ends in LF, its words are separated by exactly one blank, and every word is one to nine
 //! digits. A node file is the header `N 3 0 0`, with N from 1 to 200,000, and N rows: a number and three coordinates

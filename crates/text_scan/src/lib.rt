@@ -1,4 +1,5 @@
-//! The words of a mesh file: which rows a text has, and what their words mean as numbers.
+//! The words of a mesh file: the definitions of which rows a text has, and of what their words mean as numbers, with their
+//! laws.
 #![tactic(auto)]
 
 mod cases;

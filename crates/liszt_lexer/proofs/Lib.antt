@@ -1,0 +1,4 @@
+pub mod Findings
+pub mod Longest
+pub mod PieceList
+pub mod Places

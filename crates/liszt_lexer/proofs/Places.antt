@@ -1,0 +1,81 @@
+-- The place behind a longer front of a text comes after the place behind a shorter one.
+use Rattle.std.proofs.Common.{◌≡◌, ℕ, zero, suc, ◌+◌, ◌-◌, ◌<◌, ◌≤◌, ◌⊎◌, inl, inr, not, cond, Bool, true, false, List, [], ◌∷◌, ◌++◌}
+use Rattle.std.proofs.Common.{length, reverse, get_or, take, refl, sym, ap, subst, ◌∙◌, length-drop, arith}
+use Rattle.std.specs.List.{count_by, after_last, prefix_len}
+use Rattle.std.proofs.lemmas.List.{take_more, length-reverse, reverse-append}
+use Rattle.std.proofs.lemmas.List.Sums.{count_by_more_no, count_by_more_yes}
+use Rattle.liszt_base.specs.declared.answers.Place.{Place}
+use Rattle.liszt_lexer.specs.Lexer.{is_line_feed, place_behind, IsBefore}
+
+-- the front that passes a test is no longer than the list
+prefix_len_within : (p : ℕ → Bool) (xs : List ℕ) → prefix_len p xs ≤ length xs
+prefix_len_within p [] = omega arith
+prefix_len_within p (x ∷ xs) = go (p x) (prefix_len_within p xs) where
+  go : (b : Bool) → prefix_len p xs ≤ length xs → cond b (1 + prefix_len p xs) 0 ≤ suc (length xs)
+  go true h = omega arith
+  go false h = omega arith
+
+-- how many bytes stand behind the last LF
+length_after : (front : List ℕ) → length (after_last is_line_feed front) ≡ prefix_len (λ b. not (is_line_feed b)) (reverse front)
+length_after front =
+    let n = prefix_len (λ b. not (is_line_feed b)) (reverse front) in
+    omega (arith, length-drop (length front - n) front, prefix_len_within (λ b. not (is_line_feed b)) (reverse front), length-reverse front)
+
+-- with one byte more that is no LF it is one more
+one_more : (front : List ℕ) (b : ℕ) → is_line_feed b ≡ false
+    → length (after_last is_line_feed (front ++ b ∷ [])) ≡ length (after_last is_line_feed front) + 1
+one_more front b e =
+    let turned : reverse (front ++ b ∷ []) ≡ b ∷ reverse front = reverse-append front (b ∷ []) in
+    let n = prefix_len (λ b. not (is_line_feed b)) (reverse front) in
+    let here : cond (not (is_line_feed b)) (1 + n) 0 ≡ 1 + n = ap (λ t. cond (not t) (1 + n) 0) e in
+    let longer : prefix_len (λ b. not (is_line_feed b)) (reverse (front ++ b ∷ [])) ≡ 1 + n =
+    ap (prefix_len (λ b. not (is_line_feed b))) turned ∙ here in
+    omega (arith, length_after (front ++ b ∷ []), length_after front)
+
+-- what comes before is carried over a place between
+later : (p q r : Place) → IsBefore p q → IsBefore q r → IsBefore p r
+later p q r (inl a) (inl b) = inl (omega arith)
+later p q r (inl a) (inr b) = inl (omega (arith, b.0))
+later p q r (inr a) (inl b) = inl (omega (arith, a.0))
+later p q r (inr a) (inr b) = inr (omega (arith, a.0, b.0), omega (arith, a.1, b.1))
+
+-- the place behind one byte more comes after
+step : (text : List ℕ) (i : ℕ) → i < length text → IsBefore (place_behind (take i text)) (place_behind (take (i + 1) text))
+step text i within = go (is_line_feed (get_or text i 0)) refl where
+  go : (test : Bool) → is_line_feed (get_or text i 0) ≡ test → IsBefore (place_behind (take i text)) (place_behind (take (i + 1) text))
+  go true e = inl (omega (arith, count_by_more_yes is_line_feed text i 0 within e))
+  go false e =
+      let lines : count_by is_line_feed (take (i + 1) text) ≡ count_by is_line_feed (take i text) =
+      count_by_more_no is_line_feed text i 0 within e in
+      let cols : length (after_last is_line_feed (take (i + 1) text)) ≡ length (after_last is_line_feed (take i text)) + 1 =
+      ap (λ l. length (after_last is_line_feed l)) (take_more text i 0 within) ∙ one_more (take i text) (get_or text i 0) e in
+      inr (omega (arith, lines), omega (arith, cols))
+
+-- a place is before the one behind the next byte where it is before this one, or is this one
+later_still : (text : List ℕ) (i j : ℕ) → j < length text → (i ≡ j) ⊎ IsBefore (place_behind (take i text)) (place_behind (take j text))
+    → IsBefore (place_behind (take i text)) (place_behind (take (suc j) text))
+later_still text i j within so_far =
+    let one : j + 1 ≡ suc j = omega arith in
+    let next : IsBefore (place_behind (take j text)) (place_behind (take (suc j) text)) =
+    subst (λ (n : ℕ). IsBefore (place_behind (take j text)) (place_behind (take n text))) one (step text j within) in
+    go so_far next where
+      go : (i ≡ j) ⊎ IsBefore (place_behind (take i text)) (place_behind (take j text))
+          → IsBefore (place_behind (take j text)) (place_behind (take (suc j) text))
+          → IsBefore (place_behind (take i text)) (place_behind (take (suc j) text))
+      go (inl e) next = subst (λ (n : ℕ). IsBefore (place_behind (take n text)) (place_behind (take (suc j) text))) (sym e) next
+      go (inr h) next = later (place_behind (take i text)) (place_behind (take j text)) (place_behind (take (suc j) text)) h next
+
+-- up to a number is below it or at it
+same_or_less : (i j : ℕ) → i < suc j → (i ≡ j) ⊎ (i < j)
+same_or_less i j lt = grind arith
+
+-- the place behind more bytes of a text comes after
+pub ascends : (text : List ℕ) (i j : ℕ) → i < j → j ≤ length text → IsBefore (place_behind (take i text)) (place_behind (take j text))
+ascends text i zero lt within = absurd (omega arith)
+ascends text i (suc j) lt within =
+    later_still text i j within (go (same_or_less i j lt) (λ less. ascends text i j less (omega arith)))
+  where
+    go : (i ≡ j) ⊎ (i < j) → (i < j → IsBefore (place_behind (take i text)) (place_behind (take j text)))
+        → (i ≡ j) ⊎ IsBefore (place_behind (take i text)) (place_behind (take j text))
+    go (inl e) more = inl e
+    go (inr less) more = inr (more less)

@@ -1,0 +1,5 @@
+use Rattle.liszt_lexer.proofs.PieceList.{pieces_join}
+use Rattle.liszt_lexer.proofs.laws.pieces_are_the_text.Goals as goal
+
+pub returns : goal.returns
+returns c = pieces_join

@@ -1,0 +1,5 @@
+use Rattle.liszt_lexer.proofs.Longest.{tokens_as_pieces}
+use Rattle.liszt_lexer.proofs.laws.tokens_are_the_pieces.Goals as goal
+
+pub returns : goal.returns
+returns c = tokens_as_pieces

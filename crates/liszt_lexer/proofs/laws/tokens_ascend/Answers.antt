@@ -1,0 +1,5 @@
+use Rattle.liszt_lexer.proofs.Findings.{tokens_follow}
+use Rattle.liszt_lexer.proofs.laws.tokens_ascend.Goals as goal
+
+pub returns : goal.returns
+returns c = tokens_follow

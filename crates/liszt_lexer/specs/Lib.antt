@@ -1,0 +1,3 @@
+pub mod Cases
+pub mod Lexer
+pub mod Words

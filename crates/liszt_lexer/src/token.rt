@@ -1,0 +1,21 @@
+use liszt_base::Place;
+
+/// What a token is. `Word` and `Symbol` hold the place, from 0, in the lists of reserved words and of symbols.
+#[derive(Clone, Copy, Debug, PartialEq, Eq)]
+pub enum TokenKind {
+    Name,
+    Number(i64),
+    Word(u8),
+    Symbol(u8),
+    MinSet,
+    MaxSet,
+}
+
+/// A token with its place, and its first byte in the text and the byte behind its last, from 0.
+#[derive(Clone, Copy, Debug, PartialEq, Eq)]
+pub struct Token {
+    pub kind: TokenKind,
+    pub place: Place,
+    pub start: u32,
+    pub end: u32,
+}

@@ -1,0 +1,51 @@
+-- The derivations of the programs of the worked cases.
+use Rattle.std.proofs.Common.{List, refl}
+use Rattle.liszt_parser.specs.Grammar.{Lexeme, lexemes, Derives, chain, comparison, alone, any, IsExpression}
+use Rattle.liszt_parser.specs.Grammar.{one_operand, chained, one_sum, compared}
+use Rattle.liszt_parser.specs.Grammar.{no_prefix, negated, denied, number, name, call, in_brackets, no_more_links, linked, bracketed}
+use Rattle.liszt_parser.specs.Grammar.{by_semicolon, by_brace, is_declared, target, assign, statements, no_statements, block}
+use Rattle.liszt_parser.specs.Grammar.{main_field, main_var, main_assign, main_while, main_for, main_block, items, no_items}
+use Rattle.liszt_parser.proofs.Faults.{up, sum_up}
+use Rattle.liszt_parser.specs.Programs.{degree_text, degree_tokens, degree_tree, other_text, other_tokens, other_tree}
+use Rattle.liszt_tree.specs.declared.tree.Level.TheVariants.{Sum, Product}
+use Rattle.liszt_tree.specs.Tree.{Expression}
+
+-- a sum is an expression
+only_sum : {ts left : List Lexeme} {e : Expression} → IsExpression (chain Sum) ts e left → IsExpression any ts e left
+only_sum h = one_operand (one_operand (one_sum h))
+
+-- a comparison is an expression
+only_comparison : {ts left : List Lexeme} {e : Expression} → IsExpression comparison ts e left → IsExpression any ts e left
+only_comparison h = one_operand (one_operand h)
+
+-- what stands alone is a summand
+summand : {ts left : List Lexeme} {e : Expression} → IsExpression alone ts e left → IsExpression (chain Product) ts e left
+summand h = one_operand (no_prefix h)
+
+-- the program that counts the edges of each vertex: its field, and its loop with the two assignments
+pub degree_derives : Derives (lexemes degree_text degree_tokens) degree_tree
+degree_derives =
+    items (main_field _ _ _ _ _ refl refl refl refl refl (up (number _ refl)) (by_semicolon _ refl))
+    (items (main_for _ _ _ _ _ _ _ _ _ refl refl refl refl refl refl refl refl refl (block _ _ refl
+    (statements
+    (assign _ _ refl (target (bracketed _ _ refl (up (call _ refl (bracketed _ _ refl (up (name _ refl)) refl))) refl)) refl
+    (up (number _ refl)) (by_semicolon _ refl))
+    (statements
+    (assign _ _ refl (target (bracketed _ _ refl (up (call _ refl (bracketed _ _ refl (up (name _ refl)) refl))) refl)) refl
+    (up (number _ refl)) (by_brace _ refl))
+    no_statements)) refl)) no_items)
+
+-- the other program: its declaration, the test of its loop, and the assignment there
+pub other_derives : Derives (lexemes other_text other_tokens) other_tree
+other_derives =
+    items (main_var (is_declared _ _ _ refl refl refl (only_sum (chained (summand (number _ refl))
+    (linked _ refl (chained (no_prefix (number _ refl)) (linked _ refl (negated _ refl (no_prefix (number _ refl))) no_more_links))
+    (linked _ refl (summand (number _ refl)) no_more_links)))) (by_semicolon _ refl)))
+    (items (main_while _ refl
+    (bracketed _ _ refl (one_operand (chained (compared _ (sum_up (name _ refl)) refl (sum_up (number _ refl)))
+    (linked _ refl (one_sum (one_operand (one_operand (denied _ refl (no_prefix (in_brackets (bracketed _ _ refl
+    (only_comparison (compared _ (sum_up (name _ refl)) refl (sum_up (number _ refl)))) refl))))))) no_more_links))) refl)
+    (main_block _ _ refl
+    (items (main_assign _ _ refl refl (up (in_brackets (bracketed _ _ refl
+    (only_sum (chained (summand (name _ refl)) (linked _ refl (summand (number _ refl)) no_more_links))) refl))) (by_brace _ refl))
+    no_items) refl)) no_items)

@@ -1,0 +1,208 @@
+-- What a token begins or goes on with, by its kind: its sort, and its strength as an operator.
+use Rattle.std.proofs.Common.{◌≡◌, ℕ, ◌<◌, ◌==◌, ℤ, false, List, [], ◌∷◌, Option, Some, None, sym, ap, ◌∙◌, arith}
+use Rattle.std.proofs.lemmas.Bool.Decides.{nat_tests}
+use Rattle.liszt_lexer.specs.declared.token.TokenKind.{TokenKind}
+use Rattle.liszt_lexer.specs.declared.token.TokenKind.TheVariants.{Name as NameToken, Number as NumberToken, Word, Symbol, MinSet, MaxSet}
+use Rattle.liszt_tree.specs.declared.tree.Fun.{Fun}
+use Rattle.liszt_tree.specs.declared.tree.Level.{Level}
+use Rattle.liszt_tree.specs.declared.tree.Level.TheVariants.{Or, And, Sum, Product}
+use Rattle.liszt_tree.specs.declared.tree.Rel.{Rel}
+use Rattle.liszt_tree.specs.declared.tree.Sign.{Sign}
+use Rattle.liszt_parser.specs.Grammar.{Lexeme, Rank, chain, comparison, prefixed, alone, any, look_up, fun_of, sign_of, rel_of, open_bracket, close_bracket, close_brace, comma, minus, bang, field_word, var_word, val_word, if_word, else_word, while_word, for_word, print_word, towards_word, Closes, by_semicolon, by_brace, by_end}
+
+-- what a production begins with
+pub data Sort : Type 0 where
+  a_number : ℤ → Sort
+  a_call : Fun → Sort
+  a_name a_towards an_open a_minus a_bang a_field a_var a_val an_if an_else a_while a_for a_print an_end another : Sort
+
+-- no sort of its own is another one
+sort_or : Option Sort → Sort
+sort_or (Some s) = s
+sort_or None = another
+
+-- the words and the symbols with a sort of their own, by place
+abbrev word_sorts : List (ℕ × Sort)
+word_sorts =
+    (0, a_field) ∷ (1, a_var) ∷ (2, a_val) ∷ (3, an_if) ∷ (4, an_else) ∷ (5, a_while) ∷ (6, a_for) ∷ (7, a_print) ∷ (20, a_towards) ∷ []
+
+abbrev symbol_sorts : List (ℕ × Sort)
+symbol_sorts = (0, an_open) ∷ (3, an_end) ∷ (17, a_minus) ∷ (21, a_bang) ∷ []
+
+sort_by : Option Fun → TokenKind → Sort
+sort_by (Some fun) kind = a_call fun
+sort_by None NameToken = a_name
+sort_by None (NumberToken n) = a_number n
+sort_by None (Word place) = sort_or (look_up word_sorts place)
+sort_by None (Symbol place) = sort_or (look_up symbol_sorts place)
+sort_by None MinSet = another
+sort_by None MaxSet = another
+
+pub sort_of : TokenKind → Sort
+sort_of kind = sort_by (fun_of kind) kind
+
+-- the sort of each kind of token that begins a production
+pub sort_number : {kind : TokenKind} {n : ℤ} → kind ≡ NumberToken n → sort_of kind ≡ a_number n
+unfolding sort_of sort_by sort_or
+sort_number e = ap sort_of e
+
+pub sort_name : {kind : TokenKind} → kind ≡ NameToken → sort_of kind ≡ a_name
+unfolding sort_of sort_by sort_or
+sort_name e = ap sort_of e
+
+pub sort_call : (kind : TokenKind) {fun : Fun} → fun_of kind ≡ Some fun → sort_of kind ≡ a_call fun
+unfolding sort_of sort_by sort_or
+sort_call kind e = ap (λ o. sort_by o kind) e
+
+pub sort_towards : {kind : TokenKind} → kind ≡ towards_word → sort_of kind ≡ a_towards
+unfolding sort_of sort_by sort_or
+sort_towards e = ap sort_of e
+
+pub sort_open : {kind : TokenKind} → kind ≡ open_bracket → sort_of kind ≡ an_open
+unfolding sort_of sort_by sort_or
+sort_open e = ap sort_of e
+
+pub sort_minus : {kind : TokenKind} → kind ≡ minus → sort_of kind ≡ a_minus
+unfolding sort_of sort_by sort_or
+sort_minus e = ap sort_of e
+
+pub sort_bang : {kind : TokenKind} → kind ≡ bang → sort_of kind ≡ a_bang
+unfolding sort_of sort_by sort_or
+sort_bang e = ap sort_of e
+
+pub sort_field : {kind : TokenKind} → kind ≡ field_word → sort_of kind ≡ a_field
+unfolding sort_of sort_by sort_or
+sort_field e = ap sort_of e
+
+pub sort_var : {kind : TokenKind} → kind ≡ var_word → sort_of kind ≡ a_var
+unfolding sort_of sort_by sort_or
+sort_var e = ap sort_of e
+
+pub sort_val : {kind : TokenKind} → kind ≡ val_word → sort_of kind ≡ a_val
+unfolding sort_of sort_by sort_or
+sort_val e = ap sort_of e
+
+pub sort_if : {kind : TokenKind} → kind ≡ if_word → sort_of kind ≡ an_if
+unfolding sort_of sort_by sort_or
+sort_if e = ap sort_of e
+
+pub sort_else : {kind : TokenKind} → kind ≡ else_word → sort_of kind ≡ an_else
+unfolding sort_of sort_by sort_or
+sort_else e = ap sort_of e
+
+pub sort_while : {kind : TokenKind} → kind ≡ while_word → sort_of kind ≡ a_while
+unfolding sort_of sort_by sort_or
+sort_while e = ap sort_of e
+
+pub sort_for : {kind : TokenKind} → kind ≡ for_word → sort_of kind ≡ a_for
+unfolding sort_of sort_by sort_or
+sort_for e = ap sort_of e
+
+pub sort_print : {kind : TokenKind} → kind ≡ print_word → sort_of kind ≡ a_print
+unfolding sort_of sort_by sort_or
+sort_print e = ap sort_of e
+
+pub sort_end : {kind : TokenKind} → kind ≡ close_brace → sort_of kind ≡ an_end
+unfolding sort_of sort_by sort_or
+sort_end e = ap sort_of e
+
+-- the sort of the first token
+abbrev pub head_sort : List Lexeme → Sort
+head_sort [] = an_end
+head_sort (t ∷ ts) = sort_of t.kind
+
+-- a number for each sort, and that two sorts of different numbers are not both the first token's
+abbrev pub code : Sort → ℕ
+code (a_number n) = 0
+code (a_call fun) = 1
+code a_name = 2
+code a_towards = 3
+code an_open = 4
+code a_minus = 5
+code a_bang = 6
+code a_field = 7
+code a_var = 8
+code a_val = 9
+code an_if = 10
+code an_else = 11
+code a_while = 12
+code a_for = 13
+code a_print = 14
+code an_end = 15
+code another = 16
+
+pub clash : {A : Type 0} {s : Sort} (a b : Sort) → s ≡ a → s ≡ b → (code a == code b) ≡ false → A
+clash a b is is' differ = let same : code a ≡ code b = ap code (sym is ∙ is') in absurd (grind (arith, nat_tests))
+
+-- the strength of a token as an operator behind an expression, 0 for none
+strength_or : Option ℕ → ℕ
+strength_or (Some n) = n
+strength_or None = 0
+
+-- the operators and the opening bracket, by place, the loosest 1
+abbrev strengths : List (ℕ × ℕ)
+strengths =
+    (0, 9) ∷ (15, 1) ∷ (14, 2) ∷ (8, 3) ∷ (9, 3) ∷ (10, 3) ∷ (11, 3) ∷ (12, 3) ∷ (13, 3) ∷
+    (16, 4) ∷ (17, 4) ∷ (18, 5) ∷ (19, 5) ∷ (20, 5) ∷ []
+
+pub strength : TokenKind → ℕ
+strength (Symbol place) = strength_or (look_up strengths place)
+strength _ = 0
+
+abbrev pub strength_at : List Lexeme → ℕ
+strength_at [] = 0
+strength_at (t ∷ ts) = strength t.kind
+
+-- the strength of the operators of each level, and of what a rank is made of
+abbrev pub level_strength : Level → ℕ
+level_strength Or = 1
+level_strength And = 2
+level_strength Sum = 4
+level_strength Product = 5
+
+abbrev pub rank_strength : Rank → ℕ
+rank_strength (chain level) = level_strength level
+rank_strength comparison = 3
+rank_strength prefixed = 6
+rank_strength alone = 7
+
+-- what is left doesn't go on with an expression of the rank
+abbrev pub Stops : Rank → List Lexeme → Type 0
+Stops rank left = strength_at left < rank_strength rank
+
+-- an operator of a level has its strength, a comparison 3
+pub sign_strength : (level : Level) (kind : TokenKind) (s : Sign) → sign_of level kind ≡ Some s → strength kind ≡ level_strength level
+unfolding strength strength_or
+sign_strength Or (Symbol place) s e = grind (arith, nat_tests)
+sign_strength And (Symbol place) s e = grind (arith, nat_tests)
+sign_strength Sum (Symbol place) s e = grind (arith, nat_tests)
+sign_strength Product (Symbol place) s e = grind (arith, nat_tests)
+sign_strength Or _ s e = cc
+sign_strength And _ s e = cc
+sign_strength Sum _ s e = cc
+sign_strength Product _ s e = cc
+
+pub rel_strength : (kind : TokenKind) (rel : Rel) → rel_of kind ≡ Some rel → strength kind ≡ 3
+unfolding strength strength_or
+rel_strength (Symbol place) rel e = grind (arith, nat_tests)
+rel_strength _ rel e = cc
+
+-- an opening bracket is strongest; a closing one and a comma have no strength
+pub open_strength : {kind : TokenKind} → kind ≡ open_bracket → strength kind ≡ 9
+unfolding strength strength_or
+open_strength e = ap strength e
+
+pub close_strength : {kind : TokenKind} → kind ≡ close_bracket → strength kind ≡ 0
+unfolding strength strength_or
+close_strength e = ap strength e
+
+pub comma_strength : {kind : TokenKind} → kind ≡ comma → strength kind ≡ 0
+unfolding strength strength_or
+comma_strength e = ap strength e
+
+-- what closes a statement goes on with no expression
+pub closes_stops : {mid left : List Lexeme} → Closes mid left → Stops any mid
+unfolding strength strength_or
+closes_stops (by_semicolon t h) = let zero_is : strength t.kind ≡ 0 = ap strength h in omega arith
+closes_stops (by_brace t h) = let zero_is : strength t.kind ≡ 0 = ap strength h in omega arith
+closes_stops by_end = omega arith

@@ -1,0 +1,9 @@
+//! The tree of a program, and the definitions of the plain tree that it stands for and of its canonical text.
+#![tactic(auto)]
+
+mod cases;
+mod tree;
+
+pub use tree::{
+    Expr, Fun, How, Item, ItemList, Level, Link, LinkList, Name, Program, Rel, Sign, Stmt, StmtList,
+};
