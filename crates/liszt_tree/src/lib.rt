@@ -2,6 +2,7 @@
 #![tactic(auto)]
 
 mod cases;
+mod mapped;
 mod tree;
 
 pub use tree::{

@@ -9,3 +9,4 @@ pub mod Rows
 pub mod Spelling
 pub mod Tests
 pub mod WholeMesh
+pub mod WorkedLists

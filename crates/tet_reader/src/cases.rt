@@ -5,7 +5,10 @@ ghost use Rattle.std.specs.Prelude.{◌≡◌, [], codes, pos, Some, None};
 ghost use Rattle.liszt_base.specs.declared.answers.MeshFile.TheVariants.{Node as InNode, Ele as InEle};
 ghost use Rattle.liszt_base.specs.declared.answers.MeshWhat.TheVariants.{BadNumber, CoordRange, CornerRange, CornerTwice, CellTwice, Dimension, Extra, FaceShared, Header, Missing, NumberOrder, SecondOrder, TooMany};
 ghost use Rattle.tet_reader.specs.Faults.{first_mesh_fault};
-ghost use Rattle.tet_reader.specs.Files.{five_points, six_points};
+ghost use Rattle.text_scan.specs.Rows.{text_rows};
+ghost use Rattle.tet_reader.specs.Files.{five_points, six_points, marked_points, four_marked, cell_with_region, turned_with_region};
+ghost use Rattle.tet_reader.specs.Files.{short_points, one_short, short_cell, plain_cell};
+ghost use Rattle.tet_reader.specs.Points.{Points, Cells};
 
 /// Ele files over five points, or six, and the line of their fault.
 fn ele_files()
@@ -39,6 +42,15 @@ fn good_files()
     ensures short_headers { first_mesh_fault (codes "4\n1 0 0 0\n2 1 0 0\n3 0 1 0\n4 0 0 1\n") (codes "1\n0 4 3 2 1\n") ≡ None }
     ensures attributes { first_mesh_fault (codes "4 3 1 1\n0 0 0 0 .5 7\n1 1 0 0 0 -1\n2 0 1 0 0 0\n3 0 0 1 1e3 0\n") (codes "1 4 2\n1 0 1 2 3 2.5 0\n") ≡ None }
     ensures nothing { first_mesh_fault (codes "0") (codes "0") ≡ None }
+{}
+
+/// What files spell: coordinates and markers, corners as places from 0, and the first attribute as the region; without these
+/// words the marker and the region are 0.
+fn spelled_lists()
+    ensures marked { Points (text_rows marked_points).rows 1 four_marked }
+    ensures with_region { Cells (text_rows cell_with_region).rows four_marked 1 turned_with_region }
+    ensures short { Points (text_rows short_points).rows 0 one_short }
+    ensures without_region { Cells (text_rows short_cell).rows four_marked 0 plain_cell }
 {}
 
 /// Node files without a good header.

@@ -7,7 +7,7 @@ ghost use Rattle.liszt_base.specs.declared.elements.Kind.TheVariants.{Vertex, Ed
 ghost use Rattle.liszt_base.specs.declared.elements.SetName.TheVariants.{Vertices, Edges, Faces, Cells, EdgesCcw};
 ghost use Rattle.mesh_topology.specs.Elements.{numbers};
 ghost use Rattle.mesh_topology.specs.Meshes.{one_cell, one_turned, two_cells};
-ghost use Rattle.topo_operators.specs.Operators.{unflipped, turned, tail, head, inside, outside, flip, towards, same, valid, members};
+ghost use Rattle.topo_operators.specs.Operators.{unflipped, turned, tail, head, inside, outside, flip, towards, same, valid, members, has_set};
 
 /// The ends of the six edges of one cell, and what flipping does to them.
 fn edges_of_one_cell()
@@ -43,6 +43,14 @@ fn sets_of_elements()
         ≡ 1 ∷ 1 ∷ 1 ∷ 1 ∷ 1 ∷ 1 ∷ [] }
     ensures turned_cell { members one_turned EdgesCcw (unflipped Face 0) ≡ unflipped Edge 0 ∷ unflipped Edge 3 ∷ turned (unflipped Edge 1) ∷ [] }
     ensures no_ends { count_by (λ v. not (valid (towards one_cell (Some (unflipped Edge 0)) (Some v)))) (members one_cell Vertices (unflipped Face 1)) ≡ 1 }
+{}
+
+/// Which of `vertices edges faces cells edges_ccw` an element of each kind has.
+fn sets_there_are()
+    ensures of_vertex { map (has_set Vertex) (Vertices ∷ Edges ∷ Faces ∷ Cells ∷ EdgesCcw ∷ []) ≡ true ∷ true ∷ true ∷ true ∷ false ∷ [] }
+    ensures of_edge { map (has_set Edge) (Vertices ∷ Edges ∷ Faces ∷ Cells ∷ EdgesCcw ∷ []) ≡ true ∷ false ∷ true ∷ true ∷ false ∷ [] }
+    ensures of_face { map (has_set Face) (Vertices ∷ Edges ∷ Faces ∷ Cells ∷ EdgesCcw ∷ []) ≡ true ∷ true ∷ false ∷ true ∷ true ∷ [] }
+    ensures of_cell { map (has_set Cell) (Vertices ∷ Edges ∷ Faces ∷ Cells ∷ EdgesCcw ∷ []) ≡ true ∷ true ∷ true ∷ true ∷ false ∷ [] }
 {}
 
 /// Nil in and nil out; sameness.
