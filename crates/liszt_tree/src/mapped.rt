@@ -42,42 +42,87 @@ fn chain(level: Level, first: Boxed<Expr>, rest: LinkList) -> Expr
 fn comparison(place: Place, rel: Rel, left: Boxed<Expr>, right: Boxed<Expr>) -> Expr
     ensures { expression result ≡ Tree.Compare place rel (expression left) (expression right) }
 {
-    Expr::Compare { place, rel, left, right }
+    Expr::Compare {
+        place,
+        rel,
+        left,
+        right,
+    }
 }
 
 /// An assignment in a body, to a field at its target or to a name.
 fn assignment(place: Place, name: Name, target: Option<Expr>, how: How, value: Expr) -> Stmt
     ensures { statement_tree result ≡ Tree.Assign place name (option_map expression target) how (expression value) }
 {
-    Stmt::Assign { place, name, target, how, value }
+    Stmt::Assign {
+        place,
+        name,
+        target,
+        how,
+        value,
+    }
 }
 
 /// An `if` in a body.
 fn branch(place: Place, test: Expr, yes: StmtList, no: StmtList, has_else: bool) -> Stmt
     ensures { statement_tree result ≡ Tree.If place (expression test) (body_of (map statement_tree yes)) (body_of (map statement_tree no)) has_else }
 {
-    Stmt::If { place, test, yes, no, has_else }
+    Stmt::If {
+        place,
+        test,
+        yes,
+        no,
+        has_else,
+    }
 }
 
 /// A loop over a set of an element.
-fn set_loop(place: Place, name: Name, at: Place, set: SetName, set_at: Place, arg: Expr, body: StmtList) -> Stmt
+fn set_loop(
+    place: Place,
+    name: Name,
+    at: Place,
+    set: SetName,
+    set_at: Place,
+    arg: Expr,
+    body: StmtList,
+) -> Stmt
     ensures { statement_tree result ≡ Tree.For place name at set set_at (expression arg) (body_of (map statement_tree body)) }
 {
-    Stmt::For { place, name, at, set, set_at, arg, body }
+    Stmt::For {
+        place,
+        name,
+        at,
+        set,
+        set_at,
+        arg,
+        body,
+    }
 }
 
 /// An `if` of the main program.
 fn main_branch(place: Place, test: Expr, yes: ItemList, no: ItemList, has_else: bool) -> Item
     ensures { item_tree result ≡ Tree.MainIf place (expression test) (main_of (map item_tree yes)) (main_of (map item_tree no)) has_else }
 {
-    Item::If { place, test, yes, no, has_else }
+    Item::If {
+        place,
+        test,
+        yes,
+        no,
+        has_else,
+    }
 }
 
 /// A comprehension.
 fn comprehension(place: Place, name: Name, at: Place, over: Kind, body: StmtList) -> Item
     ensures { item_tree result ≡ Tree.MainFor place name at over (body_of (map statement_tree body)) }
 {
-    Item::For { place, name, at, over, body }
+    Item::For {
+        place,
+        name,
+        at,
+        over,
+        body,
+    }
 }
 
 /// A program.

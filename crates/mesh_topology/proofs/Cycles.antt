@@ -45,7 +45,7 @@ three_long points (a ∷ b ∷ c ∷ []) z h m = absurd m
 three_long points (a ∷ b ∷ c ∷ d ∷ e ∷ xs) z h m = absurd m
 
 -- two lists with the same members
-same_by : (xs ys : List ℕ) → ((x : ℕ) → Member x xs → Member x ys) → ((x : ℕ) → Member x ys → Member x xs) → same_members xs ys ≡ true
+pub same_by : (xs ys : List ℕ) → ((x : ℕ) → Member x xs → Member x ys) → ((x : ℕ) → Member x ys → Member x xs) → same_members xs ys ≡ true
 same_by xs ys h k = and_from (includes xs ys) (includes ys xs) (includes_by xs ys k) (includes_by ys xs h)
 
 -- the rotation of a cycle that begins at one of its members, and has them all

@@ -1,4 +1,5 @@
 pub mod Cycles
+pub mod FaceEdges
 pub mod Ranked
 pub mod Rising
 pub mod Sets

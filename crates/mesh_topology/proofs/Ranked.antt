@@ -43,7 +43,7 @@ element_is mesh kind size r set m =
     (s.0, s.1, k.1)
 
 -- and each such list is one
-is_element : (mesh : MeshLists) (kind : Kind) (size : ℕ) → HasCorners kind size → (set : List ℕ) → length set ≡ size
+pub is_element : (mesh : MeshLists) (kind : Kind) (size : ℕ) → HasCorners kind size → (set : List ℕ) → length set ≡ size
     → Between 0 (length mesh.points) set → in_a_cell mesh set ≡ true → Member set (elements mesh kind)
 is_element mesh kind size r set l b i =
     let all = sets_of size 0 (length mesh.points) in

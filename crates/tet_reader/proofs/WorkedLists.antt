@@ -75,12 +75,19 @@ marked = record {
   header_is = record { spelled = refl; numbers = refl; points_fit = omega arith; attributes_fit = omega arith; markers_fit = omega arith };
   base_is = omega arith;
   base_of_none = λ e. absurd (omega arith);
-  each =
-      (point_row (codes "1") (codes "1" ∷ codes "2" ∷ codes "3" ∷ []) (codes ".5" ∷ []) (codes "7" ∷ []) (pos 500000 ∷ []) (pos 7 ∷ []) refl refl refl refl refl,
-      (point_row (codes "2") (codes "0" ∷ codes "1e-05" ∷ codes "0" ∷ []) (codes "0" ∷ []) (codes "-1" ∷ []) (pos 0 ∷ []) (negsuc 0 ∷ []) refl refl refl refl refl,
-      (point_row (codes "3") (codes "0" ∷ codes "1" ∷ codes "0" ∷ []) (codes "0" ∷ []) (codes "0" ∷ []) (pos 0 ∷ []) (pos 0 ∷ []) refl refl refl refl refl,
-      (point_row (codes "4") (codes "0" ∷ codes "-0.0000019" ∷ codes "1" ∷ []) (codes "1e3" ∷ []) (codes "2" ∷ []) (pos 1000000000 ∷ []) (pos 2 ∷ []) refl refl refl refl refl,
-      tt))));
+  each = (
+    point_row (codes "1") (codes "1" ∷ codes "2" ∷ codes "3" ∷ []) (codes ".5" ∷ []) (codes "7" ∷ []) (pos 500000 ∷ []) (pos 7 ∷ []) refl refl refl refl refl,
+    (
+      point_row (codes "2") (codes "0" ∷ codes "1e-05" ∷ codes "0" ∷ []) (codes "0" ∷ []) (codes "-1" ∷ []) (pos 0 ∷ []) (negsuc 0 ∷ []) refl refl refl refl refl,
+      (
+        point_row (codes "3") (codes "0" ∷ codes "1" ∷ codes "0" ∷ []) (codes "0" ∷ []) (codes "0" ∷ []) (pos 0 ∷ []) (pos 0 ∷ []) refl refl refl refl refl,
+        (
+          point_row (codes "4") (codes "0" ∷ codes "-0.0000019" ∷ codes "1" ∷ []) (codes "1e3" ∷ []) (codes "2" ∷ []) (pos 1000000000 ∷ []) (pos 2 ∷ []) refl refl refl refl refl,
+          tt,
+        ),
+      ),
+    ),
+  );
 }
 
 abbrev with_region_header : Row
@@ -102,9 +109,11 @@ with_region = record {
   rows_are = with_region_rows;
   header_is = record { spelled = refl; numbers = refl; cells_fit = omega arith; attributes_fit = omega arith };
   first_is = omega arith;
-  each =
-      (cell_row (codes "0") (codes "4" ∷ codes "2" ∷ codes "3" ∷ codes "1" ∷ []) (codes "2.5" ∷ codes "9" ∷ []) (pos 2500000 ∷ pos 9000000 ∷ [])
-      refl refl (refl, refl, refl) refl refl, tt);
+  each = (
+    cell_row (codes "0") (codes "4" ∷ codes "2" ∷ codes "3" ∷ codes "1" ∷ []) (codes "2.5" ∷ codes "9" ∷ []) (pos 2500000 ∷ pos 9000000 ∷ [])
+        refl refl (refl, refl, refl) refl refl,
+    tt,
+  );
 }
 
 abbrev short_header : Row

@@ -18,17 +18,6 @@ unflipped kind id = record { kind = kind; id = id; flipped = false }
 abbrev pub turned : Elem → Elem
 turned x = record { kind = x.kind; id = x.id; flipped = not x.flipped }
 
--- edges and faces have two orientations
-abbrev pub has_orientations : Kind → Bool
-has_orientations Edge = true
-has_orientations Face = true
-has_orientations _ = false
-
--- an element of the mesh: the id is in range, and neither a vertex nor a cell is flipped
-pub record IsOf (mesh : MeshLists) (x : Elem) : Type 0 where
-  pub in_range : x.id < count mesh x.kind
-  pub oriented : has_orientations x.kind ≡ false → x.flipped ≡ false
-
 -- ENDS. An unflipped edge goes from its lesser corner, the tail, to the other, the head. Of an unflipped face the inside is
 -- the first of the cells beside it, and the outside the second, or nil. Flipped it is the other way round.
 abbrev pub vertex_at : MeshLists → Elem → ℕ → Option Elem
@@ -110,6 +99,13 @@ cycle_of mesh face =
 abbrev pub edge_along : MeshLists → ℕ × ℕ → Elem
 edge_along mesh step =
     record { kind = Edge; id = unwrap_or (id_of_corners mesh Edge (step.0 ∷ step.1 ∷ [])) 0; flipped = nat_lt step.1 step.0 }
+
+-- What the law speaks of: an edge of the mesh that goes from one vertex to another.
+pub record GoesAlong (mesh : MeshLists) (step : ℕ × ℕ) (edge : Elem) : Type 0 where
+  pub is_edge : edge.kind ≡ Edge
+  pub in_range : edge.id < count mesh Edge
+  pub from : tail mesh (Some edge) ≡ Some (unflipped Vertex step.0)
+  pub to : head mesh (Some edge) ≡ Some (unflipped Vertex step.1)
 
 -- the members of a set of an element: those near it, unflipped, by ascending id, or the edges of its cycle
 abbrev pub members : MeshLists → SetName → Elem → List Elem
