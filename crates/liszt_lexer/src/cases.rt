@@ -2,9 +2,9 @@
 #![allow(dead_code)]
 
 ghost use Rattle.std.specs.Prelude.{◌≡◌, None, Ok, Err, [], ◌∷◌, ◌++◌, codes, pos, replicate};
-ghost use Rattle.liszt_base.specs.declared.answers.ProgramWhat.TheVariants.{BadByte, LongNumber, LongName};
+ghost use Rattle.liszt_base.specs.declared.answers.ProgramWhat.TheVariants.{BadByte, LongNumber, LongName, Big};
 ghost use Rattle.liszt_lexer.specs.Cases.{found, refused};
-ghost use Rattle.liszt_lexer.specs.Lexer.{tokens_of, kinds_of, pieces, end_of};
+ghost use Rattle.liszt_lexer.specs.Lexer.{tokens_of, kinds_of, pieces, end_of, counted_at, fault_behind};
 ghost use Rattle.liszt_lexer.specs.declared.token.TokenKind.TheVariants.{Name as IsName, Number as IsNumber, Word as IsWord};
 ghost use Rattle.liszt_lexer.specs.declared.token.TokenKind.TheVariants.{Symbol as IsSymbol, MinSet as IsMinSet, MaxSet as IsMaxSet};
 
@@ -95,6 +95,13 @@ fn bad_bytes()
 fn first_fault()
     ensures name_first { tokens_of (replicate 65 97 ++ codes " #") ≡ refused LongName 1 1 }
     ensures byte_first { tokens_of (codes "# 9223372036854775808") ≡ refused BadByte 1 1 }
+{}
+
+/// The 131,072nd token is one, and the next is `Big` at its place; a fault there stays what it is.
+fn counted_tokens()
+    ensures last { counted_at 131071 (Ok (found IsName 7 3 80 81)) ≡ Ok (found IsName 7 3 80 81) }
+    ensures past { counted_at 131072 (Ok (found IsName 7 3 80 81)) ≡ Err (record { what = Big; place = record { line = 7; col = 3 }; first = None }) }
+    ensures fault { counted_at 131072 (Err (fault_behind [] LongName)) ≡ Err (fault_behind [] LongName) }
 {}
 
 /// The end of a text that ends in LF is column 1 of the next line.

@@ -1,20 +1,22 @@
 -- Programs with their tokens and their trees, for worked cases of the grammar. This project's own.
-use Rattle.std.specs.Prelude.{ℕ, Some, List, [], ◌∷◌, codes, pos}
+use Rattle.std.specs.Prelude.{ℕ, true, false, Some, None, List, [], ◌∷◌, codes, pos}
 use Rattle.liszt_base.specs.declared.answers.Place.{Place}
-use Rattle.liszt_base.specs.declared.elements.Kind.TheVariants.{Vertex, Edge}
-use Rattle.liszt_base.specs.declared.elements.Op.TheVariants.{Add, Min}
+use Rattle.liszt_base.specs.declared.elements.Kind.TheVariants.{Vertex, Edge, Face}
+use Rattle.liszt_base.specs.declared.elements.Op.TheVariants.{Add, Mul, Min}
+use Rattle.liszt_base.specs.declared.elements.SetName.TheVariants.{EdgesCcw}
 use Rattle.liszt_lexer.specs.Cases.{found}
 use Rattle.liszt_lexer.specs.declared.token.Token.{Token}
 use Rattle.liszt_lexer.specs.declared.token.TokenKind.TheVariants.{Name as IsName, Number as IsNumber}
 use Rattle.liszt_lexer.specs.declared.token.TokenKind.TheVariants.{Word as IsWord, Symbol as IsSymbol, MinSet as IsMinSet}
-use Rattle.liszt_tree.specs.declared.tree.Fun.TheVariants.{Head, Tail}
-use Rattle.liszt_tree.specs.declared.tree.How.TheVariants.{Fold}
+use Rattle.liszt_tree.specs.declared.tree.Fun.TheVariants.{Head, Tail, Inside, Valid, Id}
+use Rattle.liszt_tree.specs.declared.tree.How.TheVariants.{Set, Fold, Less}
 use Rattle.liszt_tree.specs.declared.tree.Level.TheVariants as level
-use Rattle.liszt_tree.specs.declared.tree.Rel.TheVariants.{Same as Equal, AtMost}
+use Rattle.liszt_tree.specs.declared.tree.Rel.TheVariants.{Same as Equal, Other, Below, AtMost, Above}
 use Rattle.liszt_tree.specs.declared.tree.Sign.TheVariants as sign
-use Rattle.liszt_tree.specs.Tree.{Expression, Number, Name, Call, Neg, Not, Chain, Compare, no_links, link}
-use Rattle.liszt_tree.specs.Tree.{Statement, Assign, no_statement, statement}
-use Rattle.liszt_tree.specs.Tree.{MainField, MainVar, MainAssign, MainWhile, MainFor, Main, no_item, item}
+use Rattle.liszt_tree.specs.Tree.{nowhere, Expression, Number, Name, Field, Call, Towards, Neg, Not, Chain, Compare, no_links, link}
+use Rattle.liszt_tree.specs.Tree.{Statement, Var, Val, Assign, If, While, For, Body, no_statement, statement}
+use Rattle.liszt_tree.specs.Trees.{name, number}
+use Rattle.liszt_tree.specs.Tree.{MainField, MainVar, MainAssign, MainIf, MainWhile, MainFor, Print, Main, no_item, item}
 
 abbrev pub at : ℕ → ℕ → Place
 at line col = record { line = line; col = col }
@@ -91,3 +93,48 @@ abbrev pub other_tree : Main
 other_tree =
     item (MainVar (at 1 1) (codes "m") (at 1 5) other_sum)
     (item (MainWhile (at 1 25) other_test (item (MainAssign (at 1 55) (codes "m") (Fold Min) one_less) no_item)) no_item)
+
+-- EVERY OTHER CONSTRUCT: blocks with and without `else`, an empty one, and each statement of a body. Its words have no places.
+abbrev pub every_words : List (List ℕ)
+every_words =
+    codes "var" ∷ codes "m" ∷ codes "=" ∷ codes "-" ∷ codes "1" ∷ codes ";" ∷ codes "field" ∷ codes "F" ∷ codes ":"
+    ∷ codes "Face" ∷ codes "=" ∷ codes "0" ∷ codes ";" ∷ codes "if" ∷ codes "(" ∷ codes "m" ∷ codes "==" ∷ codes "0" ∷ codes ")"
+    ∷ codes "{" ∷ codes "print" ∷ codes "m" ∷ codes "}" ∷ codes "else" ∷ codes "{" ∷ codes "m" ∷ codes "=" ∷ codes "2"
+    ∷ codes "}" ∷ codes "for" ∷ codes "(" ∷ codes "f" ∷ codes "<-" ∷ codes "faces" ∷ codes "(" ∷ codes "mesh" ∷ codes ")"
+    ∷ codes ")" ∷ codes "{" ∷ codes "val" ∷ codes "c" ∷ codes "=" ∷ codes "inside" ∷ codes "(" ∷ codes "f" ∷ codes ")"
+    ∷ codes ";" ∷ codes "var" ∷ codes "n" ∷ codes "=" ∷ codes "1" ∷ codes ";" ∷ codes "if" ∷ codes "(" ∷ codes "valid"
+    ∷ codes "(" ∷ codes "c" ∷ codes ")" ∷ codes "||" ∷ codes "n" ∷ codes ">" ∷ codes "2" ∷ codes ")" ∷ codes "{" ∷ codes "n"
+    ∷ codes "-=" ∷ codes "1" ∷ codes "}" ∷ codes "else" ∷ codes "{" ∷ codes "}" ∷ codes "while" ∷ codes "(" ∷ codes "n"
+    ∷ codes "<" ∷ codes "3" ∷ codes ")" ∷ codes "{" ∷ codes "n" ∷ codes "*=" ∷ codes "2" ∷ codes "}" ∷ codes "for" ∷ codes "("
+    ∷ codes "e" ∷ codes "<-" ∷ codes "edges_ccw" ∷ codes "(" ∷ codes "f" ∷ codes ")" ∷ codes ")" ∷ codes "{" ∷ codes "F"
+    ∷ codes "(" ∷ codes "f" ∷ codes ")" ∷ codes "+=" ∷ codes "ID" ∷ codes "(" ∷ codes "towards" ∷ codes "(" ∷ codes "e"
+    ∷ codes "," ∷ codes "head" ∷ codes "(" ∷ codes "e" ∷ codes ")" ∷ codes ")" ∷ codes ")" ∷ codes "%" ∷ codes "7" ∷ codes "}"
+    ∷ codes "if" ∷ codes "(" ∷ codes "F" ∷ codes "(" ∷ codes "f" ∷ codes ")" ∷ codes "!=" ∷ codes "0" ∷ codes ")" ∷ codes "{"
+    ∷ codes "F" ∷ codes "(" ∷ codes "f" ∷ codes ")" ∷ codes "=" ∷ codes "n" ∷ codes "}" ∷ codes "}" ∷ []
+
+abbrev pub in_block : Statement → Body
+in_block s = statement s no_statement
+
+abbrev pub every_statement : Body
+every_statement =
+    statement (Val nowhere (codes "c") nowhere (Call nowhere Inside (name (codes "f"))))
+    (statement (Var nowhere (codes "n") nowhere (number 1))
+    (statement (If nowhere
+    (Chain level.Or (Call nowhere Valid (name (codes "c"))) (link sign.Or nowhere (Compare nowhere Above (name (codes "n")) (number 2)) no_links))
+    (in_block (Assign nowhere (codes "n") None Less (number 1))) no_statement true)
+    (statement (While nowhere (Compare nowhere Below (name (codes "n")) (number 3))
+    (in_block (Assign nowhere (codes "n") None (Fold Mul) (number 2))))
+    (statement (For nowhere (codes "e") nowhere EdgesCcw nowhere (name (codes "f"))
+    (in_block (Assign nowhere (codes "F") (Some (name (codes "f"))) (Fold Add)
+    (Chain level.Product (Call nowhere Id (Towards nowhere (name (codes "e")) (Call nowhere Head (name (codes "e")))))
+    (link sign.Rest nowhere (number 7) no_links)))))
+    (in_block (If nowhere (Compare nowhere Other (Field nowhere (codes "F") (name (codes "f"))) (number 0))
+    (in_block (Assign nowhere (codes "F") (Some (name (codes "f"))) Set (name (codes "n")))) no_statement false))))))
+
+abbrev pub every_tree : Main
+every_tree =
+    item (MainVar nowhere (codes "m") nowhere (Neg nowhere (number 1)))
+    (item (MainField nowhere (codes "F") nowhere Face (number 0))
+    (item (MainIf nowhere (Compare nowhere Equal (name (codes "m")) (number 0))
+    (item (Print nowhere (name (codes "m"))) no_item) (item (MainAssign nowhere (codes "m") Set (number 2)) no_item) true)
+    (item (MainFor nowhere (codes "f") nowhere Face every_statement) no_item)))

@@ -7,5 +7,6 @@ mod fault_cases;
 pub mod laws;
 mod plain;
 mod program_cases;
+mod word_cases;
 
 pub use plain::{Plain, read_plain};

@@ -37,6 +37,35 @@ fn first_faults()
     ensures node_before_ele { first_mesh_fault (codes "1\n0 0 0\n") (codes "x") ≡ Some (record { file = InNode; line = 2; what = Missing; number = pos 0 }) }
 {}
 
+/// What is wrong with a header: each of its tests, and a file without one, which is told at the last line.
+fn headers()
+    ensures no_row { first_mesh_fault (codes "# a\n\n") [] ≡ Some (record { file = InNode; line = 2; what = Header; number = pos 0 }) }
+    ensures five_words { first_mesh_fault (codes "1 3 0 0 0") [] ≡ Some (record { file = InNode; line = 1; what = Header; number = pos 0 }) }
+    ensures no_number { first_mesh_fault (codes "1 3 x") [] ≡ Some (record { file = InNode; line = 1; what = Header; number = pos 0 }) }
+    ensures attributes { first_mesh_fault (codes "1 3 65") [] ≡ Some (record { file = InNode; line = 1; what = Header; number = pos 0 }) }
+    ensures markers { first_mesh_fault (codes "1 3 0 2") [] ≡ Some (record { file = InNode; line = 1; what = Header; number = pos 0 }) }
+    ensures ele_no_row { first_mesh_fault five_points [] ≡ Some (record { file = InEle; line = 0; what = Header; number = pos 0 }) }
+    ensures ele_four_words { first_mesh_fault five_points (codes "1 4 0 0") ≡ Some (record { file = InEle; line = 1; what = Header; number = pos 0 }) }
+    ensures ele_many { first_mesh_fault five_points (codes "1000001 10") ≡ Some (record { file = InEle; line = 1; what = TooMany; number = pos 1000001 }) }
+    ensures ele_corners { first_mesh_fault five_points (codes "1 5") ≡ Some (record { file = InEle; line = 1; what = Header; number = pos 0 }) }
+    ensures ele_attributes { first_mesh_fault five_points (codes "1 4 65") ≡ Some (record { file = InEle; line = 1; what = Header; number = pos 0 }) }
+{}
+
+/// What is wrong with a word, by what it stands for, and rows that are missing, which is told at the last line and after its tests.
+fn words_and_rows()
+    ensures row_number { first_mesh_fault (codes "1\nx 0 0 0\n") [] ≡ Some (record { file = InNode; line = 2; what = BadNumber; number = pos 0 }) }
+    ensures coordinate { first_mesh_fault (codes "1\n0 0 0 1e\n") [] ≡ Some (record { file = InNode; line = 2; what = BadNumber; number = pos 0 }) }
+    ensures marker { first_mesh_fault (codes "1 3 0 1\n0 0 0 0 1.5\n") [] ≡ Some (record { file = InNode; line = 2; what = BadNumber; number = pos 0 }) }
+    ensures node_words { first_mesh_fault (codes "1\n0 0 0 0 0\n") [] ≡ Some (record { file = InNode; line = 2; what = Extra; number = pos 0 }) }
+    ensures corner { first_mesh_fault five_points (codes "1\n0 0 1 2 3.0\n") ≡ Some (record { file = InEle; line = 2; what = BadNumber; number = pos 0 }) }
+    ensures corner_below { first_mesh_fault five_points (codes "1\n0 0 1 2 -1\n") ≡ Some (record { file = InEle; line = 2; what = CornerRange; number = pos 0 }) }
+    ensures below_base { first_mesh_fault (codes "1\n1 0 0 0\n") (codes "1\n0 0 1 1 1\n") ≡ Some (record { file = InEle; line = 2; what = CornerRange; number = pos 0 }) }
+    ensures cell_number { first_mesh_fault five_points (codes "1\n2 0 1 2 3\n") ≡ Some (record { file = InEle; line = 2; what = NumberOrder; number = pos 0 }) }
+    ensures missing_at_end { first_mesh_fault (codes "2\n0 0 0 0\n# end\n") [] ≡ Some (record { file = InNode; line = 3; what = Missing; number = pos 0 }) }
+    ensures tests_before_missing { first_mesh_fault (codes "2\n0 x 0 0\n") [] ≡ Some (record { file = InNode; line = 2; what = BadNumber; number = pos 0 }) }
+    ensures first_twice { first_mesh_fault five_points (codes "3\n0 0 1 2 3\n1 1 0 2 3\n2 0 1 2 3\n") ≡ Some (record { file = InEle; line = 3; what = CellTwice; number = pos 0 }) }
+{}
+
 /// Files that spell a mesh: missing words of a header, the base 1 with cells numbered from 0, attributes and markers.
 fn good_files()
     ensures short_headers { first_mesh_fault (codes "4\n1 0 0 0\n2 1 0 0\n3 0 1 0\n4 0 0 1\n") (codes "1\n0 4 3 2 1\n") ≡ None }
