@@ -85,6 +85,9 @@ summed_sum = sum_of (sum_of (name (codes "a")) sign.Plus (name (codes "b"))) sig
 abbrev pub compared_comparison : Expression
 compared_comparison = Compare nowhere Equal (Compare nowhere Below (name (codes "a")) (name (codes "b"))) (name (codes "c"))
 
+abbrev pub compared_to_comparison : Expression
+compared_to_comparison = Compare nowhere Equal (name (codes "a")) (Compare nowhere Below (name (codes "b")) (name (codes "c")))
+
 abbrev pub prefixes : Expression
 prefixes = Not nowhere (Neg nowhere (Neg nowhere (name (codes "x"))))
 

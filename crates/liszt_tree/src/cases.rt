@@ -3,7 +3,7 @@
 
 ghost use Rattle.std.specs.Prelude.{◌≡◌, codes};
 ghost use Rattle.liszt_tree.specs.Canonical.{canonical, text_of};
-ghost use Rattle.liszt_tree.specs.Trees.{degrees, over_faces, choices, brackets, plain_chain, summed_sum, compared_comparison, prefixes, either};
+ghost use Rattle.liszt_tree.specs.Trees.{degrees, over_faces, choices, brackets, plain_chain, summed_sum, compared_comparison, compared_to_comparison, prefixes, either};
 
 /// The program that counts the edges of each vertex, and one with blocks in blocks, empty ones among them.
 fn programs()
@@ -17,6 +17,7 @@ fn expressions()
     ensures brackets { text_of brackets ≡ codes "-(a + 1) * (b - (c - 2)) < !(x && y)" }
     ensures summed_sum { text_of summed_sum ≡ codes "(a + b) + c" }
     ensures compared_comparison { text_of compared_comparison ≡ codes "(a < b) == c" }
+    ensures compared_to_comparison { text_of compared_to_comparison ≡ codes "a == (b < c)" }
     ensures prefixes { text_of prefixes ≡ codes "!--x" }
     ensures either { text_of either ≡ codes "a && (b || c) || d" }
     ensures chain { text_of plain_chain ≡ codes "a - b - towards(e, v)" }

@@ -5,7 +5,7 @@ ghost use Rattle.std.specs.Prelude.{◌≡◌, Some, [], ◌∷◌};
 ghost use Rattle.liszt_base.specs.Corners.{IsMesh};
 ghost use Rattle.liszt_base.specs.declared.elements.Kind.TheVariants.{Vertex, Edge, Face, Cell};
 ghost use Rattle.mesh_topology.specs.Elements.{corner_lists, elements, count, id_of_corners, near, sides, face_cycle};
-ghost use Rattle.mesh_topology.specs.Meshes.{one_cell, one_turned, two_cells};
+ghost use Rattle.mesh_topology.specs.Meshes.{one_cell, one_turned, two_cells, two_at_an_edge};
 
 /// The edges and the faces of two cells that share a face, in order, and how many elements of each kind there are.
 fn two_cells_have()
@@ -60,6 +60,12 @@ fn turned_cell_has()
     ensures three { face_cycle one_turned 3 ≡ 1 ∷ 3 ∷ 2 ∷ [] }
     ensures vertices { count one_turned Vertex ≡ 5 }
     ensures near_none { near one_turned Vertex 4 Vertex ≡ [] }
+{}
+
+/// Cells that share an edge alone aren't near each other, and each is near the edge.
+fn cells_at_an_edge()
+    ensures near_none { near two_at_an_edge Cell 0 Cell ≡ [] }
+    ensures near_edge { near two_at_an_edge Edge 0 Cell ≡ 0 ∷ 1 ∷ [] }
 {}
 
 /// These are meshes whose elements can be numbered.
