@@ -1,7 +1,7 @@
 -- Lists that are kept one behind the other: one more at the end, and the one at a place.
-use Rattle.std.proofs.Common.{◌≡◌, ℕ, zero, suc, ◌+◌, ◌-◌, ◌<◌, ◌≤◌, Option, Some, None, List, [], ◌∷◌, ◌++◌, take, drop, length, get_or, refl, sym, ap, subst, ◌∙◌, arith}
+use Rattle.std.proofs.Common.{◌≡◌, ℕ, zero, suc, ◌-◌, ◌<◌, ◌≤◌, Some, List, [], ◌∷◌, ◌++◌, take, drop, length, get_or, refl, sym, ap, subst, ◌∙◌, arith}
 use Rattle.std.specs.List.{slice_get}
-use Rattle.std.proofs.lemmas.List.{length-append, length-drop, take-append-le, drop-append-le, take_all}
+use Rattle.std.proofs.lemmas.List.{length-append, length-drop, take-append-le, drop-append-le, take_rest}
 use Rattle.std.proofs.Math.Seq.{drop-append_seam}
 use Rattle.std.proofs.lemmas.Grind.{get_or_default_zero}
 use Rattle.liszt_base.specs.Cuts.{cut, AreEnds, start_at}
@@ -31,18 +31,22 @@ cut_kept start total items more (end ∷ ends) h fits =
     let rise = ends_rise end total ends h.1 in
     cc (piece_kept start end items more h.0 (omega arith), cut_kept end total items more ends h.1 fits)
 
+-- what was left behind the last place is one list more
+pub cut_close : {A : Type 0} (start total : ℕ) (items : List A) (ends : List ℕ) → AreEnds start ends total → total ≤ length items
+    → cut start items (ends ++ length items ∷ []) ≡ cut start items ends ++ drop total items ∷ []
+cut_close start total items [] h le =
+    let all : take (length items - start) (drop start items) ≡ drop total items = take_rest items start ∙ ap (λ k. drop k items) h in
+    ap (λ l. l ∷ []) all
+cut_close start total items (end ∷ ends) h le = ap (λ l. take (end - start) (drop start items) ∷ l) (cut_close end total items ends h.1 le)
+
 -- a list more
 pub cut_push : {A : Type 0} (start : ℕ) (items more : List A) (ends : List ℕ) → AreEnds start ends (length items)
     → cut start (items ++ more) (ends ++ length (items ++ more) ∷ []) ≡ cut start items ends ++ more ∷ []
-cut_push start items more [] h =
-    let seam : drop start (items ++ more) ≡ more = ap (λ k. drop k (items ++ more)) h ∙ drop-append_seam items more in
-    let size : length (items ++ more) - start ≡ length more = omega (arith, length-append items more, h) in
-    let all : take (length (items ++ more) - start) (drop start (items ++ more)) ≡ more =
-    ap (take (length (items ++ more) - start)) seam ∙ take_all (length (items ++ more) - start) more (omega (arith, size)) in
-    ap (λ l. l ∷ []) all
-cut_push start items more (end ∷ ends) h =
-    let rise = ends_rise end (length items) ends h.1 in
-    cc (piece_kept start end items more h.0 (omega arith), cut_push end items more ends h.1)
+cut_push start items more ends h =
+    let longer : length items ≤ length (items ++ more) = omega (arith, length-append items more) in
+    let kept = cut_kept start (length items) items more ends h (omega arith) in
+    cut_close start (length items) (items ++ more) ends h longer
+    ∙ cc (ap (λ l. l ++ drop (length items) (items ++ more) ∷ []) kept, ap (λ l. cut start items ends ++ l ∷ []) (drop-append_seam items more))
 
 pub ends_push : (start total total' : ℕ) (ends : List ℕ) → AreEnds start ends total → total ≤ total' → AreEnds start (ends ++ total' ∷ []) total'
 ends_push start total total' [] h le = (omega (arith, h), refl)

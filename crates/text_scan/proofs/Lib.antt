@@ -1,3 +1,6 @@
+pub mod LineSteps
+pub mod TableRows
+pub mod WordSteps
 pub mod Cuts
 pub mod Meaning
 pub mod Splits

@@ -5,5 +5,11 @@
 mod cases;
 mod faults;
 pub mod laws;
+mod line_buf;
+mod pieces;
+mod row_table;
+mod rows;
 
 pub use faults::NumberFault;
+pub use line_buf::LineBuf;
+pub use rows::{Lines, Rows};

@@ -1,4 +1,4 @@
-use Rattle.std.proofs.Common.{◌∙◌, length}
+use Rattle.std.proofs.Common.{◌∙◌}
 use Rattle.liszt_base.proofs.Cuts.{grown}
 use Rattle.liszt_base.proofs.plain_lists.PlainLists.push.Goals as goal
 

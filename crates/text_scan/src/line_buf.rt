@@ -5,7 +5,7 @@ use itoa::Buffer;
 use std::marker::Model;
 
 /// A line of at most 256 bytes. Contracts see its bytes.
-#[derive(Drop)]
+#[derive(Debug, Drop)]
 pub struct LineBuf {
     room: [u8; 256],
     count: usize,
@@ -42,11 +42,11 @@ impl LineBuf {
         self.count = end;
     }
 
-    /// Adds a number, in at most 40 bytes.
+    /// Adds a number, in decimal digits, with a `-` in front of one below zero: at most 20 bytes.
     pub fn number(&mut self, number: i64)
-        requires { length self.old + 40 ≤ 256 }
+        requires { length self.old + length (signed_decimal number) ≤ 256 }
         ensures bytes { self.new ≡ self.old ++ signed_decimal number }
-        ensures short { length self.new ≤ length self.old + 40 }
+        ensures short { length self.new ≤ length self.old + 20 }
     {
         let mut buffer = Buffer::new();
         self.text(buffer.format(number).as_bytes());

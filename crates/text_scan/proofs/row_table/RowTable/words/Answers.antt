@@ -1,0 +1,23 @@
+use Rattle.std.proofs.Common.{ap, sym, arith}
+use Rattle.text_scan.proofs.TableRows.{rows_count, row_found, words_count}
+use Rattle.text_scan.specs.Tables.{row_at}
+use Rattle.text_scan.proofs.row_table.RowTable.words.Goals as goal
+
+pub span-start-requires : goal.span-start-requires
+span-start-requires c =
+    let a = c.self.inside in
+    let count = rows_count a.words a.ends.items c.args.self.now.rows (ap (λ t. t.rows) c.self.view_is) in
+    omega (arith, count, a.ends.ok.0, c.requires, c.as_slice.ensures.len)
+
+pub overflow_sub-result : goal.overflow_sub-result
+overflow_sub-result c =
+    let a = c.self.inside in
+    (row_found a.words a.ends.items c.as_slice.result.now c.args.self.now.rows a.closed c.args.place c.span-start.result.0 c.span-start.result.1
+    (ap (λ t. t.rows) c.self.view_is) c.self.invariant.0 c.self.invariant.1 c.requires c.as_slice.ensures.value c.span-start.ensures.start c.span-start.ensures.end).rises
+
+pub returns : goal.returns
+returns c =
+    let a = c.self.inside in
+    let r = row_found a.words a.ends.items c.as_slice.result.now c.args.self.now.rows a.closed c.args.place c.span-start.result.0 c.span-start.result.1
+    (ap (λ t. t.rows) c.self.view_is) c.self.invariant.0 c.self.invariant.1 c.requires c.as_slice.ensures.value c.span-start.ensures.start c.span-start.ensures.end in
+    sym (words_count a.words (row_at c.args.self.now.rows c.args.place) c.span-start.result.0 c.span-start.result.1 r)
