@@ -5,5 +5,7 @@
 mod cases;
 mod faults;
 pub mod laws;
+mod numbers;
 
 pub use faults::NumberFault;
+pub use numbers::{millionths, whole};
