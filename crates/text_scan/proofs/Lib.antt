@@ -2,6 +2,8 @@ pub mod LineSteps
 pub mod TableRows
 pub mod WordSteps
 pub mod Cuts
+pub mod Places
 pub mod Meaning
 pub mod Splits
 pub mod RowLaws
+pub mod Reading

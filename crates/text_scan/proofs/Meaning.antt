@@ -26,7 +26,7 @@ is_more : (m n : ℕ) → n < m → nat_le m n ≡ false
 is_more m n h = grind (arith, nat_tests)
 
 -- tested digits are digits
-all_digits : (ds : List ℕ) → list_all is_ascii_digit ds ≡ true → AllDigits 10 ds
+pub all_digits : (ds : List ℕ) → list_all is_ascii_digit ds ≡ true → AllDigits 10 ds
 all_digits [] e = tt
 all_digits (d ∷ ds) e =
     let two = and_parts (is_ascii_digit d) (list_all is_ascii_digit ds) e in

@@ -1,7 +1,9 @@
 -- The parts of a list between the elements that pass a test, and what passes a test at no element.
 use Rattle.std.proofs.lemmas.Bool.{or_parts}
-use Rattle.std.proofs.Common.{◌≡◌, ℕ, zero, suc, not, cond, Bool, true, false, List, [], ◌∷◌, ◌++◌, take, refl, ap, ◌∙◌}
-use Rattle.std.specs.List.{slice_split, onto_first, before_first, position_or_len, list_any, AllByRecursion}
+use Rattle.std.proofs.Common.{◌≡◌, ℕ, zero, suc, ◌+◌, ◌≤◌, not, cond, ◌||◌, nat_lt, Bool, true, false, List, [], ◌∷◌, ◌++◌, take, drop, length, Some, None, position, refl, sym, ap, ◌∙◌, arith}
+use Rattle.std.specs.List.{slice_split, onto_first, before_first, after_first, position_or_len, list_any, AllByRecursion}
+use Rattle.std.proofs.lemmas.Bool.Decides.{nat_tests}
+use Rattle.std.proofs.lemmas.List.{take_all, drop_all}
 use Rattle.std.proofs.lemmas.List.Sums.{take_while-cons}
 
 -- there is a first part
@@ -95,3 +97,44 @@ before_append p [] y ys h e = take_while-cons (λ z. not (p z)) y ys ∙ rw e re
 before_append p (x ∷ xs) y ys h e =
     let two = or_parts (p x) (list_any p xs) h in
     take_while-cons (λ z. not (p z)) x (xs ++ y ∷ ys) ∙ rw two.0 (ap (λ l. x ∷ l) (before_append p xs y ys two.1 e))
+
+-- FIRST PLACES: where the first element that passes stands, if any does
+
+one_more : (m n : ℕ) → nat_lt m n ≡ nat_lt (1 + m) (suc n)
+one_more m n = grind (arith, nat_tests)
+
+first_of_some : (n : ℕ) → true ≡ nat_lt 0 (suc n)
+first_of_some n = grind (arith, nat_tests)
+
+-- some element passes where the first one stands within the list
+any_within : (p : ℕ → Bool) (xs : List ℕ) → list_any p xs ≡ nat_lt (position_or_len p xs) (length xs)
+any_within p [] = refl
+any_within p (x ∷ xs) = go (p x) (any_within p xs) where
+  go : (b : Bool) → list_any p xs ≡ nat_lt (position_or_len p xs) (length xs)
+      → (b || list_any p xs) ≡ nat_lt (cond (not b) (1 + position_or_len p xs) 0) (length (x ∷ xs))
+  go true more = first_of_some (length xs)
+  go false more = more ∙ one_more (position_or_len p xs) (length xs)
+
+-- where none passes, the whole list stands before and nothing behind
+pub all_before : (p : ℕ → Bool) (xs : List ℕ) → NonePass p xs → (xs ≡ before_first p xs) × ([] ≡ after_first p xs)
+all_before p xs none =
+    let out : nat_lt (position_or_len p xs) (length xs) ≡ false = sym (any_within p xs) ∙ none in
+    let past : length xs ≤ position_or_len p xs = grind (arith, nat_tests) in
+    (sym (take_all (position_or_len p xs) xs past), sym (drop_all (position_or_len p xs + 1) xs (omega arith)))
+
+-- what a place that was found says, and what none says
+pub found : (p : ℕ → Bool) (xs : List ℕ) (place : ℕ) → position p xs ≡ Some place
+    → (list_any p xs ≡ true) × (take place xs ≡ before_first p xs) × (drop (place + 1) xs ≡ after_first p xs)
+found p xs place h = go (nat_lt (position_or_len p xs) (length xs)) refl h where
+  go : (b : Bool) → nat_lt (position_or_len p xs) (length xs) ≡ b → cond b (Some (position_or_len p xs)) None ≡ Some place
+      → (list_any p xs ≡ true) × (take place xs ≡ before_first p xs) × (drop (place + 1) xs ≡ after_first p xs)
+  go true is e =
+      let same : place ≡ position_or_len p xs = cc in
+      (any_within p xs ∙ is, ap (λ n. take n xs) same, ap (λ n. drop (n + 1) xs) same)
+  go false is e = absurd cc
+
+pub missed : (p : ℕ → Bool) (xs : List ℕ) → position p xs ≡ None → NonePass p xs
+missed p xs h = go (nat_lt (position_or_len p xs) (length xs)) refl h where
+  go : (b : Bool) → nat_lt (position_or_len p xs) (length xs) ≡ b → cond b (Some (position_or_len p xs)) None ≡ None → NonePass p xs
+  go true is e = absurd cc
+  go false is e = any_within p xs ∙ is
