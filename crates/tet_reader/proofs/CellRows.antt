@@ -9,7 +9,7 @@ use Rattle.liszt_base.specs.Corners.{are_different}
 use Rattle.liszt_base.specs.declared.mesh.RawCell.{RawCell}
 use Rattle.text_scan.specs.Numbers.{whole_of, millionths_of}
 use Rattle.text_scan.specs.declared.faults.NumberFault.{NumberFault}
-use Rattle.tet_reader.specs.Tests.{Real, Corner}
+use Rattle.tet_reader.specs.declared.words.Word.TheVariants.{Real, Corner}
 use Rattle.tet_reader.specs.Points.{IsCellRow, Spell, first_or_zero}
 use Rattle.tet_reader.specs.Faults.{size_of, cell_words, row_corners}
 use Rattle.tet_reader.proofs.Tests.{Passes, zip_append, append_zip, number_takes, number_again, real_takes, real_again}

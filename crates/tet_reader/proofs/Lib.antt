@@ -1,11 +1,8 @@
 pub mod CellRows
 pub mod Headers
 pub mod Lists
-pub mod Loop
-pub mod PlainLaws
 pub mod PointRows
 pub mod RowLists
-pub mod Rows
 pub mod Spelling
 pub mod Tests
 pub mod WholeMesh

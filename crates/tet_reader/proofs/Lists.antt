@@ -9,7 +9,8 @@ use Rattle.liszt_base.specs.declared.answers.MeshWhat.TheVariants.{CornerTwice}
 use Rattle.liszt_base.specs.declared.mesh.Point.{Point}
 use Rattle.liszt_base.specs.declared.mesh.RawCell.{RawCell}
 use Rattle.text_scan.specs.Rows.{Row}
-use Rattle.tet_reader.specs.Tests.{Word, first, unless, row_tests}
+use Rattle.tet_reader.specs.Tests.{first, unless, row_tests}
+use Rattle.tet_reader.specs.declared.words.Word.{Word}
 use Rattle.tet_reader.specs.Headers.{node_numbers, ele_numbers, IsNodeHeader, IsEleHeader, number_at, node_header_tests, ele_header_tests}
 use Rattle.tet_reader.specs.Points.{AreNumbered, IsPointRow, IsCellRow, Points, Cells}
 use Rattle.tet_reader.specs.Faults.{first_number, point_words, cell_words, row_corners, node_row_tests, node_tests, ele_row_tests}

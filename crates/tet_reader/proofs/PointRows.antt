@@ -6,7 +6,7 @@ use Rattle.std.specs.List.{AllZip}
 use Rattle.std.proofs.lemmas.List.{length-append}
 use Rattle.liszt_base.specs.declared.mesh.Point.{Point}
 use Rattle.text_scan.specs.Numbers.{whole_of, millionths_of}
-use Rattle.tet_reader.specs.Tests.{Real, Marker}
+use Rattle.tet_reader.specs.declared.words.Word.TheVariants.{Real, Marker}
 use Rattle.tet_reader.specs.Points.{IsPointRow, first_or_zero}
 use Rattle.tet_reader.specs.Faults.{point_words}
 use Rattle.tet_reader.proofs.Tests.{Passes, zip_append, append_zip, number_takes, number_again, real_takes, real_again, marker_takes}

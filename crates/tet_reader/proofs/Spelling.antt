@@ -4,7 +4,8 @@ use Rattle.std.specs.Prelude.{ℤ, Result, Ok}
 use Rattle.std.specs.List.{AllZip}
 use Rattle.std.proofs.lemmas.List.{length-map}
 use Rattle.text_scan.specs.declared.faults.NumberFault.{NumberFault}
-use Rattle.tet_reader.specs.Tests.{Word, word_test}
+use Rattle.tet_reader.specs.Tests.{word_test}
+use Rattle.tet_reader.specs.declared.words.Word.{Word}
 use Rattle.tet_reader.specs.Points.{Spell}
 use Rattle.tet_reader.proofs.Tests.{Passes}
 

@@ -8,7 +8,8 @@ use Rattle.liszt_base.specs.declared.answers.MeshWhat.{MeshWhat}
 use Rattle.liszt_base.specs.declared.answers.MeshWhat.TheVariants.{NumberOrder, CornerRange, Missing, Extra}
 use Rattle.text_scan.specs.declared.faults.NumberFault.{NumberFault}
 use Rattle.text_scan.specs.declared.faults.NumberFault.TheVariants.{BadNumber as NoNumber, CoordRange as TooFar}
-use Rattle.tet_reader.specs.Tests.{unless, first, is_within, Word, number_test, real_test, marker_test, is_corner, corner_test, word_test}
+use Rattle.tet_reader.specs.Tests.{unless, first, is_within, number_test, real_test, marker_test, is_corner, corner_test, word_test}
+use Rattle.tet_reader.specs.declared.words.Word.{Word}
 use Rattle.tet_reader.specs.Tests.{row_tests}
 
 -- a number within bounds is a natural number within them

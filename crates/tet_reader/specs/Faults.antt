@@ -12,7 +12,9 @@ use Rattle.text_scan.specs.Numbers.{whole_of}
 use Rattle.text_scan.specs.Rows.{Row, TextRows, text_rows}
 use Rattle.text_scan.specs.declared.faults.NumberFault.{NumberFault}
 use Rattle.tet_reader.specs.Headers.{node_numbers, ele_numbers, node_header_tests, ele_header_tests, number_at}
-use Rattle.tet_reader.specs.Tests.{Word, Number, Real, Marker, Corner, first, unless, is_within, row_tests}
+use Rattle.tet_reader.specs.Tests.{first, unless, is_within, row_tests}
+use Rattle.tet_reader.specs.declared.words.Word.{Word}
+use Rattle.tet_reader.specs.declared.words.Word.TheVariants.{Number, Real, Marker, Corner}
 
 -- the count that a fault tells: the header's for TooMany, else 0
 abbrev pub told_count : MeshWhat → ℤ → ℤ

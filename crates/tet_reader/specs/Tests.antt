@@ -3,6 +3,8 @@ use Rattle.std.specs.Prelude.{ℕ, ◌+◌, ◌&&◌, nat_le, nat_lt, Bool, true
 use Rattle.std.specs.List.{zip}
 use Rattle.liszt_base.specs.declared.answers.MeshWhat.{MeshWhat}
 use Rattle.liszt_base.specs.declared.answers.MeshWhat.TheVariants.{BadNumber, CoordRange, NumberOrder, Missing, Extra, CornerRange}
+use Rattle.tet_reader.specs.declared.words.Word.{Word}
+use Rattle.tet_reader.specs.declared.words.Word.TheVariants.{Number, Real, Marker, Corner}
 use Rattle.text_scan.specs.Numbers.{whole_of, millionths_of}
 use Rattle.text_scan.specs.declared.faults.NumberFault.{NumberFault}
 use Rattle.text_scan.specs.declared.faults.NumberFault.TheVariants.{BadNumber as NoNumber, CoordRange as TooFar}
@@ -22,14 +24,6 @@ first (None ∷ tests) = first tests
 abbrev pub is_within : ℕ → ℕ → ℤ → Bool
 is_within low high (pos n) = nat_le low n && nat_le n high
 is_within low high (negsuc n) = false
-
--- what a word stands for: the row's number, which is to be this; a coordinate or an attribute; a marker; a corner, by its
--- number among so many points, the first of which has the number base
-pub data Word : Type 0 where
-  Number : ℕ → Word
-  Real : Word
-  Marker : Word
-  Corner : ℕ → ℕ → Word
 
 abbrev pub number_test : ℕ → Result ℤ NumberFault → Option MeshWhat
 number_test number (Ok z) = unless (is_within number number z) NumberOrder
@@ -52,6 +46,8 @@ abbrev pub corner_test : ℕ → ℕ → Result ℤ NumberFault → Option MeshW
 corner_test base points (Ok z) = unless (is_corner base points z) CornerRange
 corner_test base points (Err fault) = Some BadNumber
 
+-- what the test of a word finds, by what it should stand for: the row's number, which is to be this; a coordinate or an attribute; a
+-- marker; a corner, by its number among so many points, the first of which has the number base
 abbrev pub word_test : Word → List ℕ → Option MeshWhat
 word_test (Number number) word = number_test number (whole_of word)
 word_test Real word = real_test (millionths_of word)

@@ -1,25 +1,12 @@
 //! Laws of the definitions, each the contract of a function that does nothing.
 
 ghost use Rattle.std.specs.Prelude.{◌≡◌, ◌↔◌, ℕ, List, None, length, map};
-ghost use Rattle.liszt_base.specs.MeshLists.{MeshLists};
-ghost use Rattle.liszt_base.specs.declared.mesh.PointTable.{PointTable as Table};
 ghost use Rattle.liszt_base.specs.Corners.{IsMesh};
 ghost use Rattle.liszt_base.specs.declared.mesh.Point.{Point as PointOf};
 ghost use Rattle.liszt_base.specs.declared.mesh.RawCell.{RawCell as CellOf};
 ghost use Rattle.text_scan.specs.Rows.{Row, TextRows};
 ghost use Rattle.tet_reader.specs.Faults.{node_fault, ele_fault, mesh_fault};
-ghost use Rattle.tet_reader.specs.PlainMesh.{IsPlainNode, IsPlainMeshOver};
 ghost use Rattle.tet_reader.specs.Points.{Points, Cells};
-
-/// A node file has one table.
-pub fn one_table()
-    ensures { (bytes : List ℕ) (t u : Table) → IsPlainNode bytes t → IsPlainNode bytes u → t ≡ u }
-{}
-
-/// Over one table an ele file has one mesh.
-pub fn one_mesh()
-    ensures { (table : Table) (bytes : List ℕ) (m n : MeshLists) → IsPlainMeshOver table bytes m → IsPlainMeshOver table bytes n → m ≡ n }
-{}
 
 /// Rows spell one list of points from one base, and over points one list of cells.
 pub fn one_list()

@@ -1,0 +1,67 @@
+ghost use Rattle.std.specs.Prelude.{◌≡◌, ◌<◌, ◌≤◌, [], ◌∷◌, ◌++◌, Some, length, slice_get};
+
+use std::marker::Model;
+
+/// How many words a row may have: a number, four corners and 64 attributes, or a number, three coordinates, 64 attributes and a marker.
+pub(crate) const MOST_WORDS: usize = 69;
+
+/// The numbers of a row's words. Contracts see the list of them.
+#[derive(Drop)]
+pub(crate) struct NumberRow {
+    room: [i64; MOST_WORDS],
+    count: usize,
+}
+
+impl Model for NumberRow {
+    ghost use Rattle.std.specs.Prelude.{List, ℤ, ◌≤◌, take};
+
+    ghost Value = { List ℤ };
+
+    ghost view = { λ a. take a.count a.room };
+
+    ghost invariant = { λ a. a.count ≤ 69 };
+}
+
+impl NumberRow {
+    /// No numbers.
+    pub fn new() -> NumberRow
+        ensures { result ≡ [] }
+    {
+        NumberRow {
+            room: [0; MOST_WORDS],
+            count: 0,
+        }
+    }
+
+    /// Forgets the numbers.
+    pub fn clear(&mut self)
+        ensures { self.new ≡ [] }
+    {
+        self.count = 0;
+    }
+
+    /// Adds a number.
+    pub fn push(&mut self, number: i64)
+        requires { length self.old < 69 }
+        ensures { self.new ≡ self.old ++ number ∷ [] }
+    {
+        self.room[self.count] = number;
+        self.count += 1;
+    }
+
+    /// The numbers.
+    pub fn as_slice(&self) -> &[i64]
+        ensures { result.now ≡ self.now }
+    {
+        &self.room[..self.count]
+    }
+
+    /// A number by its place, from 0.
+    pub fn at(&self, place: usize) -> i64
+        requires { place < length self.now }
+        ensures { slice_get self.now place ≡ Some result }
+    {
+        let number = &self.as_slice()[place];
+        *number
+    }
+}
