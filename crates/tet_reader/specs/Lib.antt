@@ -4,5 +4,7 @@ pub mod Reading
 pub mod Faults
 pub mod Files
 pub mod Headers
+pub mod Misfits
 pub mod Points
+pub mod Repeats
 pub mod Tests

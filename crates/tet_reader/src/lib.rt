@@ -9,6 +9,7 @@
 
 mod cases;
 pub mod laws;
+mod misfit;
 mod plain_cells;
 mod plain_mesh;
 mod plain_points;
