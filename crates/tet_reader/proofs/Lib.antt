@@ -1,9 +1,17 @@
 pub mod CellRows
+pub mod Faces
 pub mod Headers
+pub mod Keys
 pub mod Lists
+pub mod Misfits
+pub mod Placed
 pub mod PointRows
+pub mod Repeats
 pub mod RowLists
 pub mod Spelling
+pub mod Tables
 pub mod Tests
+pub mod WholeFault
 pub mod WholeMesh
+pub mod WordLists
 pub mod WorkedLists

@@ -20,7 +20,7 @@ use Rattle.tet_reader.proofs.Lists.{points_base, points_count, node_takes, node_
 -- ---- the tests of the whole mesh
 
 -- there is a test for each member
-along_length : {A : Type 0} (test : List A → A → Bool) (earlier xs : List A) → length (along test earlier xs) ≡ length xs
+pub along_length : {A : Type 0} (test : List A → A → Bool) (earlier xs : List A) → length (along test earlier xs) ≡ length xs
 along_length test earlier [] = refl
 along_length test earlier (x ∷ xs) = ap suc (along_length test (earlier ++ x ∷ []) xs)
 

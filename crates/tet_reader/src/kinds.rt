@@ -79,8 +79,10 @@ impl RowKind {
         ensures { ReadsWords (wanted_words self number) (row_at rows.now.rows row).words numbers.new result }
     {
         for place in 0..self.words() {
-            let value = read_word(self.word(number, place), rows.word(row, place))?;
-            numbers.push(value);
+            match read_word(self.word(number, place), rows.word(row, place)) {
+                Ok(value) => numbers.push(&value),
+                Err(what) => return Err(what),
+            }
         }
         Ok(())
     }

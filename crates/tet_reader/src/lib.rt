@@ -4,5 +4,6 @@
 mod cases;
 mod kinds;
 pub mod laws;
+mod misfit;
 mod number_row;
 mod words;

@@ -41,11 +41,11 @@ impl NumberRow {
     }
 
     /// Adds a number.
-    pub fn push(&mut self, number: i64)
+    pub fn push(&mut self, number: &i64)
         requires { length self.old < 69 }
-        ensures { self.new ≡ self.old ++ number ∷ [] }
+        ensures { self.new ≡ self.old ++ number.now ∷ [] }
     {
-        self.room[self.count] = number;
+        self.room[self.count] = *number;
         self.count += 1;
     }
 

@@ -1,24 +1,24 @@
-use Rattle.std.proofs.Common.{rules, ◌≡◌, ◌+◌, ◌^◌, ◌<◌, ◌≤◌, [], Some, length, slice_get, ℕ, ◌-◌, ◌*◌, ◌/◌, ◌%◌, Bool, true, false, nat_eq, nat_lt, List, ◌∷◌, ◌++◌, slice_index_or, slice_set, bit_and, bit_or, Fits, w8, w32, w64, Bor, MutBor, ℤ, pos, ◌+ℤ◌, ◌-ℤ◌, ◌*ℤ◌, ◌≤ℤ◌, ◌<ℤ◌, FitsSigned, to_z, of_z}
+use Rattle.std.proofs.Common.{arith, ◌∙◌, sym}
 use Rattle.text_scan.specs.Tables.{row_at}
-use Rattle.tet_reader.specs.Kinds.{wanted_words, ReadsRow, ReadsWords}
+use Rattle.tet_reader.specs.Kinds.{wanted_words}
+use Rattle.tet_reader.proofs.WordLists.{same_size, word_read, word_wrong, all_read}
 use Rattle.tet_reader.proofs.kinds.RowKind.read_words.Goals as goal
 
--- src/kinds.rt:81:9
-pub loop-place-init : goal.loop-place-init
-loop-place-init c = ?
+pub returns-in-Err : goal.returns-in-Err
+returns-in-Err c =
+    word_wrong (wanted_words c.args.self c.args.number) (row_at c.args.rows.now.rows c.args.row).words c.loop-place.numbers c.loop-place.place
+    c.word.result c.word-in-loop-place.result.now c.in-Err.what c.loop-place.invariant c.word.ensures c.word-in-loop-place.ensures c.in-Err.ensures
 
--- src/kinds.rt:82:25
-pub returns-in_err-value : goal.returns-in_err-value
-returns-in_err-value c = ?
-
--- src/kinds.rt:83:13
-pub push-requires : goal.push-requires
-push-requires c = ?
-
--- src/kinds.rt:81:9
 pub loop-place-preserved : goal.loop-place-preserved
-loop-place-preserved c = ?
+loop-place-preserved c =
+    let h = word_read (wanted_words c.args.self c.args.number) (row_at c.args.rows.now.rows c.args.row).words c.loop-place.numbers c.loop-place.place
+    c.word.result c.word-in-loop-place.result.now c.in-Ok.value c.loop-place.invariant c.word.ensures c.word-in-loop-place.ensures
+    c.in-Ok.ensures.0 c.in-Ok.ensures.1 in
+    let p = c.push.ensures in
+    ?
 
--- src/kinds.rt:74:5
 pub returns : goal.returns
-returns c = ?
+returns c =
+    let size = same_size c.args.self c.args.number in
+    all_read (wanted_words c.args.self c.args.number) (row_at c.args.rows.now.rows c.args.row).words c.loop-place.numbers c.loop-place.place
+    c.loop-place.invariant (size ∙ sym c.requires.words) (omega (arith, c.requires.words, c.words-place-end.ensures, c.loop-place-test.false))

@@ -1,0 +1,23 @@
+-- The first cell that no mesh may have. This project's own.
+use Rattle.std.specs.Prelude.{ℕ, ◌+◌, Bool, true, false, Option, Some, None, List, [], ◌∷◌}
+use Rattle.std.specs.Option.{option_map}
+use Rattle.liszt_base.specs.Corners.{along, comes_again, is_third}
+use Rattle.liszt_base.specs.declared.answers.MeshWhat.{MeshWhat}
+use Rattle.liszt_base.specs.declared.answers.MeshWhat.TheVariants.{CellTwice, FaceShared}
+use Rattle.tet_reader.specs.Tests.{first}
+use Rattle.tet_reader.specs.declared.misfit.Misfit.{Misfit}
+
+-- the place of the first test that is true, counted from this number on
+abbrev pub first_true : ℕ → List Bool → Option ℕ
+first_true place [] = None
+first_true place (true ∷ tests) = Some place
+first_true place (false ∷ tests) = first_true (place + 1) tests
+
+abbrev pub misfit : MeshWhat → ℕ → Misfit
+misfit what place = record { place = place; what = what }
+
+-- The first cell that no mesh may have, by its place and what is wrong: a cell that comes again, or else one that is the third with some face.
+abbrev pub first_misfit : List (List ℕ) → Option Misfit
+first_misfit cells = first
+    (option_map (misfit CellTwice) (first_true 0 (along comes_again [] cells))
+    ∷ option_map (misfit FaceShared) (first_true 0 (along is_third [] cells)) ∷ [])
