@@ -1,6 +1,6 @@
 pub mod CellRows
 pub mod Faces
-pub mod Headers
+pub mod HeaderTests
 pub mod Keys
 pub mod Lists
 pub mod Misfits

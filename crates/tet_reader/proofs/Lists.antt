@@ -16,7 +16,7 @@ use Rattle.tet_reader.specs.Points.{AreNumbered, IsPointRow, IsCellRow, Points, 
 use Rattle.tet_reader.specs.Faults.{first_number, point_words, cell_words, row_corners, node_row_tests, node_tests, ele_row_tests}
 use Rattle.tet_reader.specs.Faults.{ele_tests}
 use Rattle.tet_reader.proofs.Tests.{unless_none, none_unless, FindNone, none_append, append_none, row_takes, row_again}
-use Rattle.tet_reader.proofs.Headers.{node_header_takes, node_header_again, node_counts, ele_header_takes, ele_header_again, ele_counts}
+use Rattle.tet_reader.proofs.HeaderTests.{node_header_takes, node_header_again, node_counts, ele_header_takes, ele_header_again, ele_counts}
 use Rattle.tet_reader.proofs.PointRows.{one_point, point_takes, point_again, point_number}
 use Rattle.tet_reader.proofs.CellRows.{one_cell, cell_takes, cell_again, cell_number}
 use Rattle.tet_reader.proofs.RowLists.{AllPass, file_takes, file_again, IsKind, rows_take, rows_within, rows_again, numbered_length}

@@ -1,10 +1,13 @@
 -- The words of a row one after the other: their tests and their numbers.
-use Rattle.std.proofs.Common.{◌≡◌, ℕ, zero, suc, ◌+◌, ◌<◌, ◌≤◌, Option, Some, None, List, [], ◌∷◌, ◌++◌, map, take, length, slice_get, refl, sym, ap, ◌∙◌, arith}
-use Rattle.std.specs.Prelude.{ℤ, Result, Ok}
+use Rattle.std.proofs.Common.{◌≡◌, ℕ, zero, suc, ◌+◌, ◌≤◌, Option, Some, None, List, [], ◌∷◌, ◌++◌, map, take, length, slice_get, refl, sym, ap, ◌∙◌, arith}
+use Rattle.std.specs.Prelude.{ℤ, Ok}
 use Rattle.std.specs.List.{zip}
 use Rattle.std.proofs.lemmas.List.{map-append, take_all, length-map, length-take}
 use Rattle.liszt_base.specs.declared.answers.MeshWhat.{MeshWhat}
-use Rattle.text_scan.specs.declared.faults.NumberFault.{NumberFault}
+use mir.Syntax.{w64}
+use mir.Val.{SFits}
+use Rattle.text_scan.proofs.Ranges.{whole_fits, millionths_fits}
+use Rattle.tet_reader.specs.declared.words.Word.TheVariants.{Number, Real, Marker, Corner}
 use Rattle.tet_reader.specs.Tests.{first, word_test}
 use Rattle.tet_reader.specs.Kinds.{wanted_words, reading, number_or_zero, number_read}
 use Rattle.tet_reader.specs.declared.words.Word.{Word}
@@ -106,3 +109,10 @@ pub all_read : (wanted : List Word) (words : List (List ℕ)) (numbers : List �
 all_read wanted words numbers place h same all =
     let whole = take_all place (zip wanted words) (omega (arith, zip_size wanted words same)) in
     (ap (λ l. first (tests_of l)) (sym whole) ∙ h.pass, h.are ∙ ap (map number_read) whole)
+
+-- a number that is read fits into 64 bits
+pub reading_fits : (want : Word) (word : List ℕ) (value : ℤ) → reading want word ≡ Ok value → SFits w64 value
+reading_fits (Number number) word value e = whole_fits word value e
+reading_fits Real word value e = millionths_fits word value e
+reading_fits Marker word value e = whole_fits word value e
+reading_fits (Corner base points) word value e = whole_fits word value e

@@ -104,6 +104,10 @@ whole_tests base rows =
     let cells : List (List ℕ) = map (λ row. row_corners base row.words) rows in
     map (cell_fault CellTwice) (zip (along comes_again [] cells) rows) ++ map (cell_fault FaceShared) (zip (along is_third [] cells) rows)
 
+-- the ele file, then the whole mesh
+abbrev pub cells_fault : ℕ → ℕ → TextRows → Option MeshFault
+cells_fault points base ele = first (ele_fault points base ele ∷ whole_tests base (drop 1 ele.rows))
+
 -- BOTH FILES: the node file, then the ele file over its points, of which there are as many as rows behind the header where
 -- the node file has no fault, then the whole mesh
 abbrev pub mesh_fault : TextRows → TextRows → Option MeshFault

@@ -49,19 +49,23 @@ count_test most (negsuc n) = Some Header
 abbrev pub corners_test : ℤ → Option MeshWhat
 corners_test z = if is_within 10 10 z then Some SecondOrder else unless (is_within 4 4 z) Header
 
+abbrev pub node_number_tests : List ℤ → List (Option MeshWhat)
+node_number_tests numbers =
+    count_test 200000 (number_at numbers 0)
+    ∷ unless (is_within 3 3 (number_at numbers 1)) Dimension
+    ∷ unless (is_within 0 64 (number_at numbers 2)) Header
+    ∷ unless (is_within 0 1 (number_at numbers 3)) Header
+    ∷ []
+
 abbrev pub node_header_tests : List (List ℕ) → List (Option MeshWhat)
-node_header_tests words =
-    spelling_test 4 words
-    ∷ count_test 200000 (number_at (node_numbers words) 0)
-    ∷ unless (is_within 3 3 (number_at (node_numbers words) 1)) Dimension
-    ∷ unless (is_within 0 64 (number_at (node_numbers words) 2)) Header
-    ∷ unless (is_within 0 1 (number_at (node_numbers words) 3)) Header
+node_header_tests words = spelling_test 4 words ∷ node_number_tests (node_numbers words)
+
+abbrev pub ele_number_tests : List ℤ → List (Option MeshWhat)
+ele_number_tests numbers =
+    count_test 1000000 (number_at numbers 0)
+    ∷ corners_test (number_at numbers 1)
+    ∷ unless (is_within 0 64 (number_at numbers 2)) Header
     ∷ []
 
 abbrev pub ele_header_tests : List (List ℕ) → List (Option MeshWhat)
-ele_header_tests words =
-    spelling_test 3 words
-    ∷ count_test 1000000 (number_at (ele_numbers words) 0)
-    ∷ corners_test (number_at (ele_numbers words) 1)
-    ∷ unless (is_within 0 64 (number_at (ele_numbers words) 2)) Header
-    ∷ []
+ele_header_tests words = spelling_test 3 words ∷ ele_number_tests (ele_numbers words)

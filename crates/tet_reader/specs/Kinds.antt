@@ -1,5 +1,5 @@
 -- What a row should have, word by word, and what the code reads of a row. This project's own.
-use Rattle.std.specs.Prelude.{◌≡◌, ℕ, ◌-◌, None, Some, List, map, ℤ, pos, Result, Ok, Err}
+use Rattle.std.specs.Prelude.{◌≡◌, ℕ, None, Some, List, map, ℤ, pos, Result, Ok, Err}
 use Rattle.std.specs.List.{zip}
 use Rattle.liszt_base.specs.declared.answers.MeshWhat.{MeshWhat}
 use Rattle.text_scan.specs.Numbers.{whole_of, millionths_of}

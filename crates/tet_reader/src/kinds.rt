@@ -80,7 +80,7 @@ impl RowKind {
     {
         for place in 0..self.words() {
             match read_word(self.word(number, place), rows.word(row, place)) {
-                Ok(value) => numbers.push(&value),
+                Ok(value) => numbers.push(value),
                 Err(what) => return Err(what),
             }
         }

@@ -2,6 +2,7 @@
 #![tactic(auto)]
 
 mod cases;
+mod headers;
 mod kinds;
 pub mod laws;
 mod misfit;

@@ -1,4 +1,4 @@
-ghost use Rattle.std.specs.Prelude.{◌≡◌, ◌<◌, ◌≤◌, [], ◌∷◌, ◌++◌, Some, length, slice_get};
+ghost use Rattle.std.specs.Prelude.{◌≡◌, ◌+◌, ◌<◌, ◌≤◌, [], ◌∷◌, ◌++◌, Some, length, slice_get};
 
 use std::marker::Model;
 
@@ -41,12 +41,22 @@ impl NumberRow {
     }
 
     /// Adds a number.
-    pub fn push(&mut self, number: &i64)
+    pub fn push(&mut self, number: i64)
         requires { length self.old < 69 }
-        ensures { self.new ≡ self.old ++ number.now ∷ [] }
+        ensures { self.new ≡ self.old ++ number ∷ [] }
     {
-        self.room[self.count] = *number;
+        self.room[self.count] = number;
         self.count += 1;
+    }
+
+    /// Adds numbers.
+    pub fn extend(&mut self, more: &[i64])
+        requires { length self.old + length more.now ≤ 69 }
+        ensures { self.new ≡ self.old ++ more.now }
+    {
+        let end = self.count + more.len();
+        self.room[self.count..end].copy_from_slice(more);
+        self.count = end;
     }
 
     /// The numbers.

@@ -5,5 +5,6 @@ pub mod Cuts
 pub mod Places
 pub mod Meaning
 pub mod Splits
+pub mod Ranges
 pub mod RowLaws
 pub mod Reading

@@ -1,7 +1,10 @@
-use Rattle.std.proofs.Common.{arith, ◌∙◌, sym}
+use Rattle.std.proofs.Common.{arith, ◌∙◌, ◌+◌, ◌++◌, ◌∷◌, [], List, sym, ap, subst}
+use Rattle.std.specs.Prelude.{ℤ}
+use Rattle.std.proofs.lemmas.Int.{to_z-of_z}
+use mir.Syntax.{w64}
 use Rattle.text_scan.specs.Tables.{row_at}
 use Rattle.tet_reader.specs.Kinds.{wanted_words}
-use Rattle.tet_reader.proofs.WordLists.{same_size, word_read, word_wrong, all_read}
+use Rattle.tet_reader.proofs.WordLists.{AreRead, reading_fits, same_size, word_read, word_wrong, all_read}
 use Rattle.tet_reader.proofs.kinds.RowKind.read_words.Goals as goal
 
 pub returns-in-Err : goal.returns-in-Err
@@ -11,11 +14,13 @@ returns-in-Err c =
 
 pub loop-place-preserved : goal.loop-place-preserved
 loop-place-preserved c =
-    let h = word_read (wanted_words c.args.self c.args.number) (row_at c.args.rows.now.rows c.args.row).words c.loop-place.numbers c.loop-place.place
-    c.word.result c.word-in-loop-place.result.now c.in-Ok.value c.loop-place.invariant c.word.ensures c.word-in-loop-place.ensures
-    c.in-Ok.ensures.0 c.in-Ok.ensures.1 in
-    let p = c.push.ensures in
-    ?
+    let wanted = wanted_words c.args.self c.args.number in
+    let words = (row_at c.args.rows.now.rows c.args.row).words in
+    let same = to_z-of_z w64 c.in-Ok.value (reading_fits c.word.result c.word-in-loop-place.result.now c.in-Ok.value c.in-Ok.ensures.1) in
+    let pushed = c.push.ensures ∙ ap (λ v. c.loop-place.numbers ++ v ∷ []) same in
+    subst (λ (l : List ℤ). AreRead wanted words l (c.loop-place.place + 1)) (sym pushed)
+    (word_read wanted words c.loop-place.numbers c.loop-place.place c.word.result c.word-in-loop-place.result.now c.in-Ok.value
+    c.loop-place.invariant c.word.ensures c.word-in-loop-place.ensures c.in-Ok.ensures.0 c.in-Ok.ensures.1)
 
 pub returns : goal.returns
 returns c =

@@ -11,7 +11,7 @@ use Rattle.liszt_base.specs.declared.answers.MeshWhat.TheVariants.{Header, Dimen
 use Rattle.text_scan.specs.Numbers.{is_whole}
 use Rattle.tet_reader.specs.Tests.{unless, is_within}
 use Rattle.tet_reader.specs.Headers.{header_numbers, node_numbers, ele_numbers, IsNodeHeader, IsEleHeader, number_at, spelling_test}
-use Rattle.tet_reader.specs.Headers.{count_test, corners_test, node_header_tests, ele_header_tests}
+use Rattle.tet_reader.specs.Headers.{count_test, corners_test, node_number_tests, ele_number_tests, node_header_tests, ele_header_tests}
 use Rattle.tet_reader.proofs.Tests.{is_within_again, within_is, unless_none, none_unless, FindNone}
 
 -- the number is natural and within these bounds
@@ -75,15 +75,6 @@ spelling_again most words few spelled = rw (le-leb (length words) most few) (non
 
 -- ---- node files
 
--- the tests of the numbers, after that of the spelling
-abbrev node_number_tests : List ℤ → List (Option MeshWhat)
-node_number_tests numbers =
-    count_test 200000 (number_at numbers 0)
-    ∷ unless (is_within 3 3 (number_at numbers 1)) Dimension
-    ∷ unless (is_within 0 64 (number_at numbers 2)) Header
-    ∷ unless (is_within 0 1 (number_at numbers 3)) Header
-    ∷ []
-
 -- numbers that pass make a header
 node_made : (words : List (List ℕ)) (numbers : List ℤ) → list_all is_whole words ≡ true → node_numbers words ≡ numbers → length numbers ≡ 4
     → FindNone (node_number_tests numbers)
@@ -132,14 +123,6 @@ node_counts words points attributes markers h =
     (at 0, at 2, at 3)
 
 -- ---- ele files
-
--- the tests of the numbers, after that of the spelling
-abbrev ele_number_tests : List ℤ → List (Option MeshWhat)
-ele_number_tests numbers =
-    count_test 1000000 (number_at numbers 0)
-    ∷ corners_test (number_at numbers 1)
-    ∷ unless (is_within 0 64 (number_at numbers 2)) Header
-    ∷ []
 
 -- numbers that pass make a header
 ele_made : (words : List (List ℕ)) (numbers : List ℤ) → list_all is_whole words ≡ true → ele_numbers words ≡ numbers → length numbers ≡ 3

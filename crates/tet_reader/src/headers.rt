@@ -1,0 +1,177 @@
+ghost use Rattle.std.specs.Prelude.{◌≡◌, ◌<◌, ◌≤◌, ◌^◌, ◌&&◌, nat_abs, nat_le, true, [], length, map, drop};
+ghost use Rattle.std.specs.List.{list_all};
+ghost use Rattle.std.specs.Str.Parse.{signed_digits_value};
+ghost use Rattle.text_scan.specs.Numbers.{is_whole};
+ghost use Rattle.text_scan.specs.Tables.{row_at};
+ghost use Rattle.tet_reader.specs.Tests.{first, is_within as IsWithin};
+ghost use Rattle.tet_reader.specs.Headers.{header_numbers, node_number_tests, ele_number_tests};
+ghost use Rattle.tet_reader.specs.Faults.{fault_at as FaultAt, first_number as FirstNumber, node_fault, ele_fault};
+ghost use Rattle.tet_reader.specs.Answers.{HeadsNode, HeadsEle, ReadsHeader};
+
+use crate::number_row::NumberRow;
+use liszt_base::{MeshFault, MeshFile, MeshWhat};
+use text_scan::{Rows, whole};
+
+/// What the header of a node file says: how many points there are, and how many attributes and markers each has.
+#[derive(Clone, Copy, Debug)]
+pub struct NodeHeader {
+    pub points: u32,
+    pub attributes: u32,
+    pub markers: u32,
+}
+
+/// What the header of an ele file says: how many cells there are, and how many attributes each has.
+#[derive(Clone, Copy, Debug)]
+pub struct EleHeader {
+    pub cells: u32,
+    pub attributes: u32,
+}
+
+/// A fault of a line. It tells the header's count where that is too much.
+pub(crate) fn fault_at(file: MeshFile, count: i64, line: u32, what: MeshWhat) -> MeshFault
+    ensures { result ≡ FaultAt file count line what }
+{
+    let number = if what == MeshWhat::TooMany { count } else { 0 };
+    MeshFault {
+        file,
+        line,
+        what,
+        number,
+    }
+}
+
+/// The header of a node file.
+pub(crate) fn node_header(rows: &Rows) -> Result<NodeHeader, MeshFault>
+    ensures { ReadsHeader (HeadsNode rows.now.rows) (node_fault rows.now) result }
+{
+    if rows.is_empty() {
+        return Err(fault_at(MeshFile::Node, 0, rows.last_line(), MeshWhat::Header));
+    }
+    let mut numbers = NumberRow::new();
+    if !read_header(rows, &[0, 3, 0, 0], &mut numbers) {
+        return Err(fault_at(MeshFile::Node, 0, rows.line(0), MeshWhat::Header));
+    }
+    match node_number_fault(&numbers) {
+        Some(what) => Err(fault_at(MeshFile::Node, numbers.at(0), rows.line(0), what)),
+        None => Ok(NodeHeader {
+            points: size_of(numbers.at(0)),
+            attributes: size_of(numbers.at(2)),
+            markers: size_of(numbers.at(3)),
+        }),
+    }
+}
+
+/// The header of an ele file.
+pub(crate) fn ele_header(rows: &Rows, points: u32, base: u32) -> Result<EleHeader, MeshFault>
+    ensures { ReadsHeader (HeadsEle rows.now.rows) (ele_fault points base rows.now) result }
+{
+    if rows.is_empty() {
+        return Err(fault_at(MeshFile::Ele, 0, rows.last_line(), MeshWhat::Header));
+    }
+    let mut numbers = NumberRow::new();
+    if !read_header(rows, &[0, 4, 0], &mut numbers) {
+        return Err(fault_at(MeshFile::Ele, 0, rows.line(0), MeshWhat::Header));
+    }
+    match ele_number_fault(&numbers) {
+        Some(what) => Err(fault_at(MeshFile::Ele, numbers.at(0), rows.line(0), what)),
+        None => Ok(EleHeader {
+            cells: size_of(numbers.at(0)),
+            attributes: size_of(numbers.at(2)),
+        }),
+    }
+}
+
+/// The number of the first row behind the header, 1 where it spells that, and else 0.
+pub(crate) fn first_number(rows: &Rows) -> u32
+    ensures { result ≡ FirstNumber (drop 1 rows.now.rows) }
+{
+    if rows.len() > 1 && rows.words(1) > 0 && whole(rows.word(1, 0)) == Ok(1) {
+        1
+    } else {
+        0
+    }
+}
+
+/// Reads the numbers of a header, the missing ones from the right as they are given, and says whether it is spelled as one.
+fn read_header(rows: &Rows, missing: &[i64], numbers: &mut NumberRow) -> bool
+    requires some { 0 < length rows.now.rows }
+    requires short { length missing.now ≤ 69 }
+    requires none { numbers.old ≡ [] }
+    ensures spelled { result ≡ (nat_le (length (row_at rows.now.rows 0).words) (length missing.now) && list_all is_whole (row_at rows.now.rows 0).words) }
+    ensures numbers { result ≡ true → numbers.new ≡ header_numbers missing.now (row_at rows.now.rows 0).words }
+{
+    let words = rows.words(0);
+    if words > missing.len() || !read_wholes(rows, numbers) {
+        return false;
+    }
+    numbers.extend(&missing[words..]);
+    true
+}
+
+/// Reads the words of the first row as whole numbers, and says whether all are.
+fn read_wholes(rows: &Rows, numbers: &mut NumberRow) -> bool
+    requires some { 0 < length rows.now.rows }
+    requires short { length (row_at rows.now.rows 0).words ≤ 69 }
+    requires none { numbers.old ≡ [] }
+    ensures spelled { result ≡ list_all is_whole (row_at rows.now.rows 0).words }
+    ensures numbers { result ≡ true → numbers.new ≡ map (signed_digits_value 10) (row_at rows.now.rows 0).words }
+{
+    for place in 0..rows.words(0) {
+        match whole(rows.word(0, place)) {
+            Ok(number) => numbers.push(number),
+            Err(_) => return false,
+        }
+    }
+    true
+}
+
+/// What is wrong with the numbers of a node file's header.
+fn node_number_fault(numbers: &NumberRow) -> Option<MeshWhat>
+    requires { length numbers.now ≡ 4 }
+    ensures { result ≡ first (node_number_tests numbers.now) }
+{
+    if numbers.at(0) < 0 {
+        Some(MeshWhat::Header)
+    } else if numbers.at(0) > 200_000 {
+        Some(MeshWhat::TooMany)
+    } else if numbers.at(1) != 3 {
+        Some(MeshWhat::Dimension)
+    } else if !is_within(numbers.at(2), 64) || !is_within(numbers.at(3), 1) {
+        Some(MeshWhat::Header)
+    } else {
+        None
+    }
+}
+
+/// What is wrong with the numbers of an ele file's header.
+fn ele_number_fault(numbers: &NumberRow) -> Option<MeshWhat>
+    requires { length numbers.now ≡ 3 }
+    ensures { result ≡ first (ele_number_tests numbers.now) }
+{
+    if numbers.at(0) < 0 {
+        Some(MeshWhat::Header)
+    } else if numbers.at(0) > 1_000_000 {
+        Some(MeshWhat::TooMany)
+    } else if numbers.at(1) == 10 {
+        Some(MeshWhat::SecondOrder)
+    } else if numbers.at(1) != 4 || !is_within(numbers.at(2), 64) {
+        Some(MeshWhat::Header)
+    } else {
+        None
+    }
+}
+
+/// Whether the number is from 0 to `most`.
+fn is_within(number: i64, most: u32) -> bool
+    ensures { result ≡ IsWithin 0 most number }
+{
+    number >= 0 && number <= i64::from(most)
+}
+
+/// The number without its sign.
+fn size_of(number: i64) -> u32
+    requires { nat_abs number < 2 ^ 32 }
+    ensures { result ≡ nat_abs number }
+{
+    number.unsigned_abs() as u32
+}
