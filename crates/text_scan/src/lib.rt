@@ -1,5 +1,5 @@
 //! The words of a mesh file: the definitions of which rows a text has, and of what their words mean as numbers, with their
-//! laws.
+//! laws; and the functions that read a word as a number.
 #![tactic(auto)]
 
 mod cases;
