@@ -1,4 +1,5 @@
 pub mod Corners
 pub mod MeshLists
 pub mod Numbers
+pub mod Reductions
 pub mod Pieces
