@@ -2,4 +2,5 @@ pub mod Corners
 pub mod Cuts
 pub mod MeshLists
 pub mod Numbers
+pub mod Reductions
 pub mod Pieces

@@ -1,16 +1,22 @@
-//! The types that every crate of Solgrinn shares: plain lists, points and cells, words, answers, the gate.
+//! The types that every crate of Solgrinn shares: plain lists, points and cells, words, answers, the gate; and the
+//! operators of reductions.
 #![tactic(auto)]
 
+mod accesses;
 mod answers;
+mod cases;
 mod elements;
 mod gate;
+pub mod laws;
 mod mesh;
 mod plain_list;
 mod plain_lists;
 mod plain_text;
+mod reductions;
 mod shared;
 mod word_list;
 
+pub use accesses::{Access, Mode, Spot};
 pub use answers::{
     Input, MeshFault, MeshFile, MeshWhat, NoMemory, Place, ProgramFault, ProgramWhat, Refused,
 };
@@ -20,4 +26,5 @@ pub use mesh::{CellList, Point, PointList, PointTable, RawCell, RawMesh};
 pub use plain_list::{ByteList, PlainList};
 pub use plain_lists::PlainLists;
 pub use plain_text::{number_before, rest_after};
+pub use reductions::{fold_op, identity, value_of, word_of};
 pub use word_list::WordList;

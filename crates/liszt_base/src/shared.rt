@@ -1,5 +1,6 @@
 //! Which types threads may share, and move between one another.
 
+use crate::accesses::{Access, Mode, Spot};
 use crate::answers::{
     Input, MeshFault, MeshFile, MeshWhat, NoMemory, Place, ProgramFault, ProgramWhat, Refused,
 };
@@ -23,6 +24,9 @@ fn types_are_shared() {
     needs_shared::<ProgramWhat>();
     needs_shared::<ProgramFault>();
     needs_shared::<Op>();
+    needs_shared::<Mode>();
+    needs_shared::<Spot>();
+    needs_shared::<Access>();
     needs_shared::<Kind>();
     needs_shared::<Elem>();
     needs_shared::<SetName>();

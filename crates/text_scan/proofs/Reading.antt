@@ -1,6 +1,7 @@
 -- From what the parts of a word are to the number that it spells.
-use Rattle.std.proofs.Common.{◌≡◌, ℕ, ◌+◌, ◌-◌, ◌^◌, ◌<◌, ◌≤◌, min, not, ◌||◌, nat_le, cond, Bool, true, false, List, [], ◌++◌, length, Option, Some, None, Ok, Err, IfSome, IfNone, Bor, ℤ, pos, neg_ℤ, refl, sym, ap, ◌∙◌, arith}
-use Rattle.std.specs.List.{list_any, before_first}
+use Rattle.std.proofs.Common.{◌≡◌, ℕ, ◌+◌, ◌-◌, ◌^◌, ◌<◌, ◌≤◌, min, not, ◌||◌, nat_lt, nat_le, cond, Bool, true, false, List, [], ◌++◌, length, Option, Some, None, Ok, Err, IfSome, IfNone, Bor, ℤ, pos, neg_ℤ, refl, sym, ap, ◌∙◌, arith}
+use Rattle.std.specs.Char.{is_ascii_digit}
+use Rattle.std.specs.List.{list_any, list_all, before_first}
 use Rattle.std.specs.Option.{option_map}
 use Rattle.std.specs.Str.Parse.{digits_value, without_leading_sign, starts_with_minus}
 use Rattle.std.proofs.lemmas.Bool.{and_parts, le-leb}
@@ -20,7 +21,8 @@ pub whole_is : (text : List ℕ) (size : ℕ) (value : ℤ) → is_numeral (with
     → Ok value ≡ whole_of text
 whole_is text size value is few held valued =
     let ds = without_leading_sign text in
-    let below : digits_value 10 ds < 10 ^ length ds = digits_value-lt 10 ds (all_digits ds (and_parts _ _ is).1) in
+    let numeral = and_parts (nat_lt 0 (length ds)) (list_all is_ascii_digit ds) is in
+    let below : digits_value 10 ds < 10 ^ length ds = digits_value-lt 10 ds (all_digits ds numeral.1) in
     let most : 10 ^ length ds ≤ 10 ^ 18 = pow-le-pow_right {n = 10} (omega arith) {i = length ds} {j = 18} few in
     let same : size ≡ digits_value 10 ds = omega arith in
     rw (is, le-leb (length ds) 18 few, valued, same) refl
@@ -79,12 +81,13 @@ moved_is text behind point places cut none some = go (list_any is_exponent_mark 
 pub size_is : (text : List ℕ) → is_numeral (digits text) ≡ true
     → magnitude text ≡ places_of (moved (length (before_first is_point (mantissa text)) + 6) text) (digits text)
 size_is text is =
+    let numeral = and_parts (nat_lt 0 (length (digits text))) (list_all is_ascii_digit (digits text)) is in
     let u = min (raised text) 100 in
     let d = min (lowered text) 100 in
     let whole = before_first is_point (mantissa text) in
     let long = length-append whole (fraction text) in
     let places : length (digits text) + (6 + u) - (length (fraction text) + d) ≡ length whole + 6 + u - d = omega arith in
-    divided (digits text) (6 + u) (length (fraction text) + d) (all_digits (digits text) (and_parts _ _ is).1)
+    divided (digits text) (6 + u) (length (fraction text) + d) (all_digits (digits text) numeral.1)
     ∙ ap (λ n. places_of n (digits text)) places
 
 -- the ways out

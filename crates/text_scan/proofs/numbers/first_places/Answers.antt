@@ -10,6 +10,6 @@ number_after-value-requires-clause-digits c = front_passes is_ascii_digit c.min-
 
 pub returns : goal.returns
 returns c =
-    let first =
-    first_is c.args.places c.args.whole.now c.args.fraction.now c.min.result c.min-2.result c.number_after.result c.number_after-value.result c.min.ensures c.min-2.ensures c.number_after.ensures c.number_after-value.ensures in
-    rw (c.min-3.ensures, c.saturating_mul.ensures, c.saturating_pow.ensures) first
+    rw (c.min-3.ensures, c.saturating_mul.ensures, c.saturating_pow.ensures)
+    (first_is c.args.places c.args.whole.now c.args.fraction.now _ _ _ _
+    c.min.ensures c.min-2.ensures c.number_after.ensures c.number_after-value.ensures)

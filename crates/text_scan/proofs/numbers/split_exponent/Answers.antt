@@ -13,7 +13,8 @@ returns-in-Some-clause-behind c =
     rw cut.0 (ap Some (take_rest c.args.text.now (c.in-Some.place + 1) ∙ cut.2))
 
 pub returns-in-None-clause-before : goal.returns-in-None-clause-before
-returns-in-None-clause-before c = (all_before spec.is_exponent_mark c.args.text.now (missed spec.is_exponent_mark c.args.text.now (sym c.in-None.ensures))).0
+returns-in-None-clause-before c =
+    (all_before spec.is_exponent_mark c.args.text.now (missed spec.is_exponent_mark c.args.text.now (sym c.in-None.ensures))).0
 
 pub returns-in-None-clause-behind : goal.returns-in-None-clause-behind
 returns-in-None-clause-behind c = rw (missed spec.is_exponent_mark c.args.text.now (sym c.in-None.ensures)) refl

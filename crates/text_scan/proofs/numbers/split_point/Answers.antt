@@ -12,7 +12,9 @@ returns-in-Some-clause-behind c =
     take_rest c.args.text.now (c.in-Some.place + 1) ∙ (found spec.is_point c.args.text.now c.in-Some.place (sym c.in-Some.ensures)).2
 
 pub returns-in-None-clause-before : goal.returns-in-None-clause-before
-returns-in-None-clause-before c = (all_before spec.is_point c.args.text.now (missed spec.is_point c.args.text.now (sym c.in-None.ensures))).0
+returns-in-None-clause-before c =
+    (all_before spec.is_point c.args.text.now (missed spec.is_point c.args.text.now (sym c.in-None.ensures))).0
 
 pub returns-in-None-clause-behind : goal.returns-in-None-clause-behind
-returns-in-None-clause-behind c = (all_before spec.is_point c.args.text.now (missed spec.is_point c.args.text.now (sym c.in-None.ensures))).1
+returns-in-None-clause-behind c =
+    (all_before spec.is_point c.args.text.now (missed spec.is_point c.args.text.now (sym c.in-None.ensures))).1

@@ -9,4 +9,5 @@ returns-then-digits-le-MOST_DIGITS c =
     let rest = c.split_sign-minus.ensures.rest in
     let is : is_numeral (without_leading_sign c.args.text.now) ≡ true = cc in
     let few : length (without_leading_sign c.args.text.now) ≤ 18 = rw rest at c.if-digits-le-MOST_DIGITS.true in
-    rw (to_z-of_z (record { sfits = c.signed.type_inv })) (whole_is c.args.text.now c.number_after.result c.signed.result is few (rw rest at c.number_after.ensures) (rw c.split_sign-minus.ensures.minus at c.signed.ensures))
+    let value = rw c.split_sign-minus.ensures.minus at c.signed.ensures in
+    rw (to_z-of_z (record { sfits = c.signed.type_inv })) (whole_is c.args.text.now _ c.signed.result is few (rw rest at c.number_after.ensures) value)
