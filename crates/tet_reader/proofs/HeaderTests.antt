@@ -1,6 +1,6 @@
 -- A header's tests find nothing exactly where it is a header, and it is that of one count.
 use Rattle.std.proofs.lemmas.Bool.{and_parts, le-leb, leb-true}
-use Rattle.std.proofs.Common.{◌≡◌, ℕ, ◌+◌, ◌-◌, ◌≤◌, nat_le, Bool, true, false, Option, Some, None, List, [], ◌∷◌, map, drop, length}
+use Rattle.std.proofs.Common.{◌≡◌, ℕ, ◌+◌, ◌-◌, ◌≤◌, ◌&&◌, nat_le, Bool, true, false, Option, Some, None, List, [], ◌∷◌, map, drop, length}
 use Rattle.std.proofs.Common.{refl, sym, ap, subst, ◌∙◌, arith}
 use Rattle.std.specs.Prelude.{ℤ, pos, negsuc, nat_abs}
 use Rattle.std.specs.List.{list_all}
@@ -9,10 +9,10 @@ use Rattle.std.proofs.lemmas.List.{length-map, length-append, length-drop}
 use Rattle.liszt_base.specs.declared.answers.MeshWhat.{MeshWhat}
 use Rattle.liszt_base.specs.declared.answers.MeshWhat.TheVariants.{Header, Dimension, SecondOrder, TooMany}
 use Rattle.text_scan.specs.Numbers.{is_whole}
-use Rattle.tet_reader.specs.Tests.{unless, is_within}
+use Rattle.tet_reader.specs.Tests.{unless, is_within, first}
 use Rattle.tet_reader.specs.Headers.{header_numbers, node_numbers, ele_numbers, IsNodeHeader, IsEleHeader, number_at, spelling_test}
 use Rattle.tet_reader.specs.Headers.{count_test, corners_test, node_number_tests, ele_number_tests, node_header_tests, ele_header_tests}
-use Rattle.tet_reader.proofs.Tests.{is_within_again, within_is, unless_none, none_unless, FindNone}
+use Rattle.tet_reader.proofs.Tests.{is_within_again, within_is, unless_none, none_unless, FindNone, each_none}
 
 -- the number is natural and within these bounds
 abbrev Within : ℕ → ℕ → ℤ → Type 0
@@ -160,3 +160,21 @@ pub ele_counts : (words : List (List ℕ)) (cells attributes : ℕ) → IsEleHea
     → (nat_abs (number_at (ele_numbers words) 0) ≡ cells) × (nat_abs (number_at (ele_numbers words) 2) ≡ attributes)
 ele_counts words cells attributes h =
     (ap (λ (l : List ℤ). nat_abs (number_at l 0)) h.numbers, ap (λ (l : List ℤ). nat_abs (number_at l 2)) h.numbers)
+
+-- ---- from the numbers that the code has
+
+-- spelled numbers whose tests find nothing are a header's
+pub node_read : (words : List (List ℕ)) (numbers : List ℤ) → (nat_le (length words) 4 && list_all is_whole words) ≡ true → numbers ≡ node_numbers words
+    → first (node_number_tests numbers) ≡ None
+    → IsNodeHeader words (nat_abs (number_at numbers 0)) (nat_abs (number_at numbers 2)) (nat_abs (number_at numbers 3))
+node_read words numbers spelled are pass =
+    let tests : FindNone (node_number_tests (node_numbers words)) = each_none (node_number_tests (node_numbers words)) (ap (λ l. first (node_number_tests l)) (sym are) ∙ pass) in
+    let h = node_header_takes words (none_unless _ Header spelled, tests) in
+    subst (λ (l : List ℤ). IsNodeHeader words (nat_abs (number_at l 0)) (nat_abs (number_at l 2)) (nat_abs (number_at l 3))) (sym are) h
+
+pub ele_read : (words : List (List ℕ)) (numbers : List ℤ) → (nat_le (length words) 3 && list_all is_whole words) ≡ true → numbers ≡ ele_numbers words
+    → first (ele_number_tests numbers) ≡ None → IsEleHeader words (nat_abs (number_at numbers 0)) (nat_abs (number_at numbers 2))
+ele_read words numbers spelled are pass =
+    let tests : FindNone (ele_number_tests (ele_numbers words)) = each_none (ele_number_tests (ele_numbers words)) (ap (λ l. first (ele_number_tests l)) (sym are) ∙ pass) in
+    let h = ele_header_takes words (none_unless _ Header spelled, tests) in
+    subst (λ (l : List ℤ). IsEleHeader words (nat_abs (number_at l 0)) (nat_abs (number_at l 2))) (sym are) h

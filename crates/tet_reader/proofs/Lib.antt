@@ -1,6 +1,7 @@
 pub mod CellRows
 pub mod Faces
 pub mod HeaderTests
+pub mod HeaderWords
 pub mod Keys
 pub mod Lists
 pub mod Misfits
@@ -8,6 +9,7 @@ pub mod Placed
 pub mod PointRows
 pub mod Repeats
 pub mod RowLists
+pub mod RowSteps
 pub mod Spelling
 pub mod Tables
 pub mod Tests

@@ -1,17 +1,23 @@
 -- A point's row: its tests find nothing exactly where it is some point's row, and it is that of one point.
-use Rattle.std.proofs.Common.{◌≡◌, ℕ, List, [], ◌∷◌, ◌++◌, length, replicate, slice_index_or, refl, sym, ap, subst, ◌∙◌, append_assoc}
+use Rattle.std.proofs.Common.{◌≡◌, ℕ, suc, ◌+◌, nat_lt, true, None, map, lt-ltb, List, [], ◌∷◌, ◌++◌, length, replicate, slice_index_or, refl, sym, ap, subst, ◌∙◌, append_assoc}
 use Rattle.std.proofs.Common.{arith}
 use Rattle.std.specs.Prelude.{ℤ, pos, Ok}
-use Rattle.std.specs.List.{AllZip}
-use Rattle.std.proofs.lemmas.List.{length-append}
+use Rattle.std.specs.List.{AllZip, zip}
+use Rattle.std.proofs.lemmas.List.{length-append, length-map, length-replicate}
 use Rattle.liszt_base.specs.declared.mesh.Point.{Point}
 use Rattle.text_scan.specs.Numbers.{whole_of, millionths_of}
-use Rattle.tet_reader.specs.declared.words.Word.TheVariants.{Real, Marker}
+use Rattle.tet_reader.specs.declared.words.Word.{Word}
+use Rattle.tet_reader.specs.declared.words.Word.TheVariants.{Number, Real, Marker}
+use Rattle.tet_reader.specs.Tests.{first, row_tests}
+use Rattle.tet_reader.specs.Headers.{number_at}
+use Rattle.tet_reader.specs.Kinds.{number_or_zero, number_read, mark_of}
 use Rattle.tet_reader.specs.Points.{IsPointRow, first_or_zero}
 use Rattle.tet_reader.specs.Faults.{point_words}
 use Rattle.tet_reader.proofs.Tests.{Passes, zip_append, append_zip, number_takes, number_again, real_takes, real_again, marker_takes}
 use Rattle.tet_reader.proofs.Tests.{marker_again}
-use Rattle.tet_reader.proofs.Spelling.{same_parts, spell_length, one_spelling, spell_takes, spell_again}
+use Rattle.tet_reader.proofs.WordLists.{zip_size}
+use Rattle.tet_reader.proofs.Tests.{each_none, row_takes, zip_length}
+use Rattle.tet_reader.proofs.Spelling.{three_parts, same_parts, spell_length, one_spelling, spell_takes, spell_again}
 
 -- points are the same by their fields
 same_point : (x y z mark x' y' z' mark' : ℤ) → x ≡ x' → y ≡ y' → z ≡ z' → mark ≡ mark'
@@ -110,3 +116,67 @@ pub point_number : (attributes markers number : ℕ) (words : List (List ℕ)) (
     → IsPointRow attributes markers number words point → whole_of (slice_index_or words 0 []) ≡ Ok (pos number)
 point_number attributes markers number words point h =
     ap (λ (l : List (List ℕ)). whole_of (slice_index_or l 0 [])) h.words_are ∙ h.number_is
+
+-- ---- the point that the code makes of the row's numbers
+
+-- the numbers of a point's row: its own, x, y and z, the attributes and the markers
+point_numbers : (attributes markers number : ℕ) (words : List (List ℕ)) (point : Point) (h : IsPointRow attributes markers number words point)
+    → map number_read (zip (point_words attributes markers number) words)
+    ≡ pos number ∷ point.x ∷ point.y ∷ point.z ∷ (h.attribute_numbers ++ h.marker_numbers)
+point_numbers attributes markers number words point h =
+    let three = spell_length millionths_of h.coordinate_words (point.x ∷ point.y ∷ point.z ∷ []) h.coordinates_are in
+    let parts : words ≡ h.number_word ∷ (h.coordinate_words ++ (h.attribute_words ++ h.marker_words)) =
+    h.words_are ∙ ap (λ l. h.number_word ∷ l) (append_assoc h.coordinate_words h.attribute_words h.marker_words) in
+    let wanted : List Word = replicate 3 Real ++ (replicate attributes Real ++ replicate markers Marker) in
+    let all = three_parts Real Real Marker millionths_of millionths_of whole_of (λ w. refl) (λ w. refl) (λ w. refl) 3 attributes markers
+    h.coordinate_words h.attribute_words h.marker_words (point.x ∷ point.y ∷ point.z ∷ []) h.attribute_numbers h.marker_numbers
+    h.coordinates_are h.attributes_are h.markers_are three h.attributes_count h.markers_count in
+    let own : number_or_zero (whole_of h.number_word) ≡ pos number = ap number_or_zero h.number_is in
+    ap (λ l. map number_read (zip (Number number ∷ wanted) l)) parts ∙ cc (own, all)
+
+-- the mark among them
+mark_is : (attributes markers number : ℕ) (x y z : ℤ) (numbers marks : List ℤ) → length numbers ≡ attributes → length marks ≡ markers
+    → mark_of attributes markers (pos number ∷ x ∷ y ∷ z ∷ (numbers ++ marks)) ≡ first_or_zero marks
+mark_is attributes markers number x y z numbers [] l k = rw (sym k) refl
+mark_is attributes markers number x y z numbers (mark ∷ marks) l k =
+    let some : nat_lt 0 markers ≡ true = lt-ltb 0 markers (omega arith) in
+    let at : 4 + attributes ≡ suc (suc (suc (suc (length numbers)))) = omega arith in
+    rw some (ap (λ i. number_at (pos number ∷ x ∷ y ∷ z ∷ (numbers ++ mark ∷ marks)) i) at ∙ seam numbers)
+  where
+    seam : (l : List ℤ) → slice_index_or (l ++ mark ∷ marks) (length l) (pos 0) ≡ mark
+    seam [] = refl
+    seam (n ∷ l) = seam l
+
+-- the row is that of the point of these numbers
+pub point_read : (count place attributes markers number : ℕ) (words : List (List ℕ)) (numbers : List ℤ)
+    → first (row_tests count place (point_words attributes markers number) words) ≡ None
+    → numbers ≡ map number_read (zip (point_words attributes markers number) words)
+    → IsPointRow attributes markers number words
+    (record { x = number_at numbers 1; y = number_at numbers 2; z = number_at numbers 3; mark = mark_of attributes markers numbers })
+point_read count place attributes markers number words numbers pass are =
+    let tests = each_none (row_tests count place (point_words attributes markers number) words) pass in
+    let found = point_takes attributes markers number words (row_takes count place (point_words attributes markers number) words tests).1 in
+    let point = found.0 in
+    let h = found.1 in
+    let all = are ∙ point_numbers attributes markers number words point h in
+    let at : (k : ℕ) → number_at numbers k ≡ number_at (pos number ∷ point.x ∷ point.y ∷ point.z ∷ (h.attribute_numbers ++ h.marker_numbers)) k =
+    λ k. ap (λ l. number_at l k) all in
+    let attributes' = sym (spell_length millionths_of h.attribute_words h.attribute_numbers h.attributes_are) ∙ h.attributes_count in
+    let markers' = sym (spell_length whole_of h.marker_words h.marker_numbers h.markers_are) ∙ h.markers_count in
+    let mark = ap (mark_of attributes markers) all
+    ∙ (mark_is attributes markers number point.x point.y point.z h.attribute_numbers h.marker_numbers attributes' markers' ∙ sym h.mark_is) in
+    let same = same_point point.x point.y point.z point.mark (number_at numbers 1) (number_at numbers 2) (number_at numbers 3)
+    (mark_of attributes markers numbers) (sym (at 1)) (sym (at 2)) (sym (at 3)) (sym mark) in
+    subst (λ (p : Point). IsPointRow attributes markers number words p) same h
+
+-- how many numbers there are
+pub point_count : (count place attributes markers number : ℕ) (words : List (List ℕ)) (numbers : List ℤ)
+    → first (row_tests count place (point_words attributes markers number) words) ≡ None
+    → numbers ≡ map number_read (zip (point_words attributes markers number) words) → length numbers ≡ 4 + attributes + markers
+point_count count place attributes markers number words numbers pass are =
+    let wanted = point_words attributes markers number in
+    let tests = each_none (row_tests count place wanted words) pass in
+    let same = zip_length Passes wanted words (row_takes count place wanted words tests).1 in
+    let size = length-append (replicate attributes Real) (replicate markers Marker) in
+    omega (arith, ap length are, length-map (zip wanted words) number_read, zip_size wanted words same, same, size,
+      length-replicate attributes Real, length-replicate markers Marker)

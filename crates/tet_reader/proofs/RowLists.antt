@@ -31,12 +31,12 @@ line_takes : (file : MeshFile) (count : ℤ) (line : ℕ) (tests : List (Option 
     → FindNone tests
 line_takes file count line tests e = each_none tests (map_none (fault_at file count line) (first tests) e)
 
-line_again : (file : MeshFile) (count : ℤ) (line : ℕ) (tests : List (Option MeshWhat)) → FindNone tests
+pub line_again : (file : MeshFile) (count : ℤ) (line : ℕ) (tests : List (Option MeshWhat)) → FindNone tests
     → line_fault file count line tests ≡ None
 line_again file count line tests h = ap (option_map (fault_at file count line)) (first_none tests h)
 
 -- what the tests of the rows find, by their lines
-abbrev row_faults : MeshFile → ℤ → (ℕ → List (List ℕ) → List (Option MeshWhat)) → ℕ → List Row → List (Option MeshFault)
+abbrev pub row_faults : MeshFile → ℤ → (ℕ → List (List ℕ) → List (Option MeshWhat)) → ℕ → List Row → List (Option MeshFault)
 row_faults file count tests place rows = map (λ r. line_fault file count r.1.line (tests r.0 r.1.words)) (enumerate_from place rows)
 
 -- they find nothing where each row's tests do
@@ -46,14 +46,14 @@ rows_pass file count tests place [] h = tt
 rows_pass file count tests place (row ∷ rows) h =
     (line_takes file count row.line (tests place row.words) h.0, rows_pass file count tests (place + 1) rows h.1)
 
-pass_rows : (file : MeshFile) (count : ℤ) (tests : ℕ → List (List ℕ) → List (Option MeshWhat)) (place : ℕ) (rows : List Row)
+pub pass_rows : (file : MeshFile) (count : ℤ) (tests : ℕ → List (List ℕ) → List (Option MeshWhat)) (place : ℕ) (rows : List Row)
     → AllPass tests place rows → FindNone (row_faults file count tests place rows)
 pass_rows file count tests place [] h = tt
 pass_rows file count tests place (row ∷ rows) h =
     (line_again file count row.line (tests place row.words) h.0, pass_rows file count tests (place + 1) rows h.1)
 
 -- the test at the last line
-abbrev last_tests : ℤ → List Row → List (Option MeshWhat)
+abbrev pub last_tests : ℤ → List Row → List (Option MeshWhat)
 last_tests count rows = unless (nat_le (nat_abs count) (length rows)) Missing ∷ []
 
 -- a file's tests find nothing where those of its header and of its rows do, and no row is missing

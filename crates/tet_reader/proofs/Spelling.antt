@@ -1,11 +1,12 @@
 -- Words that spell numbers, and the parts of a row.
 use Rattle.std.proofs.Common.{◌≡◌, ℕ, zero, suc, None, List, [], ◌∷◌, ◌++◌, map, length, replicate, refl, sym, ap, ◌∙◌, arith}
 use Rattle.std.specs.Prelude.{ℤ, Result, Ok}
-use Rattle.std.specs.List.{AllZip}
-use Rattle.std.proofs.lemmas.List.{length-map}
+use Rattle.std.specs.List.{AllZip, zip}
+use Rattle.std.proofs.lemmas.List.{length-map, length-replicate}
 use Rattle.text_scan.specs.declared.faults.NumberFault.{NumberFault}
 use Rattle.tet_reader.specs.Tests.{word_test}
 use Rattle.tet_reader.specs.declared.words.Word.{Word}
+use Rattle.tet_reader.specs.Kinds.{reading, number_or_zero, number_read}
 use Rattle.tet_reader.specs.Points.{Spell}
 use Rattle.tet_reader.proofs.Tests.{Passes}
 
@@ -67,3 +68,39 @@ spell_again wanted read again (suc n) (word ∷ words) (z ∷ numbers) e l =
     let one : read word ≡ Ok z = cc in
     let more : Spell read words numbers = cc in
     (again word z one, spell_again wanted read again n words numbers more (omega arith))
+
+-- ---- the numbers that the code reads
+
+-- the numbers of so many words that spell some
+pub spelled_numbers : (wanted : Word) (read : List ℕ → Result ℤ NumberFault) → ((word : List ℕ) → reading wanted word ≡ read word)
+    → (n : ℕ) (words : List (List ℕ)) (numbers : List ℤ) → Spell read words numbers → length words ≡ n
+    → map number_read (zip (replicate n wanted) words) ≡ numbers
+spelled_numbers wanted read same zero [] [] e l = refl
+spelled_numbers wanted read same zero (word ∷ words) numbers e l = absurd (omega arith)
+spelled_numbers wanted read same (suc n) [] numbers e l = absurd (omega arith)
+spelled_numbers wanted read same n [] (z ∷ numbers) e l = cc
+spelled_numbers wanted read same (suc n) (word ∷ words) [] e l = cc
+spelled_numbers wanted read same (suc n) (word ∷ words) (z ∷ numbers) e l =
+    let one : read word ≡ Ok z = cc in
+    let more : Spell read words numbers = cc in
+    cc (ap number_or_zero (same word ∙ one), spelled_numbers wanted read same n words numbers more (omega arith))
+
+-- lists that go with each other one after the other
+pub map_zip_append : {A B C : Type 0} (f : A × B → C) (xs ys : List A) (us vs : List B) → length xs ≡ length us
+    → map f (zip (xs ++ ys) (us ++ vs)) ≡ map f (zip xs us) ++ map f (zip ys vs)
+map_zip_append f [] ys [] vs e = refl
+map_zip_append f [] ys (u ∷ us) vs e = absurd (omega arith)
+map_zip_append f (x ∷ xs) ys [] vs e = absurd (omega arith)
+map_zip_append f (x ∷ xs) ys (u ∷ us) vs e = ap (λ l. f (x, u) ∷ l) (map_zip_append f xs ys us vs (omega arith))
+
+-- three parts of a row: all of one kind each
+pub three_parts : (a b c : Word) (read_a read_b read_c : List ℕ → Result ℤ NumberFault) → ((word : List ℕ) → reading a word ≡ read_a word)
+    → ((word : List ℕ) → reading b word ≡ read_b word) → ((word : List ℕ) → reading c word ≡ read_c word)
+    → (k m n : ℕ) (us vs ws : List (List ℕ)) (ks ms ns : List ℤ) → Spell read_a us ks → Spell read_b vs ms → Spell read_c ws ns
+    → length us ≡ k → length vs ≡ m → length ws ≡ n
+    → map number_read (zip (replicate k a ++ (replicate m b ++ replicate n c)) (us ++ (vs ++ ws))) ≡ ks ++ (ms ++ ns)
+three_parts a b c read_a read_b read_c p q r k m n us vs ws ks ms ns e f g lu lv lw =
+    let inner = map_zip_append number_read (replicate m b) (replicate n c) vs ws (omega (arith, length-replicate m b, lv)) in
+    let outer = map_zip_append number_read (replicate k a) (replicate m b ++ replicate n c) us (vs ++ ws) (omega (arith, length-replicate k a, lu)) in
+    outer
+    ∙ cc (spelled_numbers a read_a p k us ks e lu, inner, spelled_numbers b read_b q m vs ms f lv, spelled_numbers c read_c r n ws ns g lw)

@@ -1,10 +1,11 @@
 -- What a row should have, word by word, and what the code reads of a row. This project's own.
-use Rattle.std.specs.Prelude.{◌≡◌, ℕ, None, Some, List, map, ℤ, pos, Result, Ok, Err}
+use Rattle.std.specs.Prelude.{◌≡◌, ℕ, None, Some, List, map, ℤ, pos, Result, Ok, Err, if◌then◌else◌, ◌+◌, nat_lt}
 use Rattle.std.specs.List.{zip}
 use Rattle.liszt_base.specs.declared.answers.MeshWhat.{MeshWhat}
 use Rattle.text_scan.specs.Numbers.{whole_of, millionths_of}
 use Rattle.text_scan.specs.declared.faults.NumberFault.{NumberFault}
 use Rattle.tet_reader.specs.Tests.{first, word_test, row_tests}
+use Rattle.tet_reader.specs.Headers.{number_at}
 use Rattle.tet_reader.specs.Faults.{point_words, cell_words}
 use Rattle.tet_reader.specs.declared.words.Word.{Word}
 use Rattle.tet_reader.specs.declared.words.Word.TheVariants.{Number, Real, Marker, Corner}
@@ -47,3 +48,7 @@ abbrev pub ReadsWords : List Word → List (List ℕ) → List ℤ → Result (U
 ReadsWords wanted words numbers (Ok done) =
     (first (map (λ w. word_test w.0 w.1) (zip wanted words)) ≡ None) × (numbers ≡ map number_read (zip wanted words))
 ReadsWords wanted words numbers (Err what) = first (map (λ w. word_test w.0 w.1) (zip wanted words)) ≡ Some what
+
+-- the mark among the numbers of a point's row, 0 where there is none
+abbrev pub mark_of : ℕ → ℕ → List ℤ → ℤ
+mark_of attributes markers numbers = if nat_lt 0 markers then number_at numbers (4 + attributes) else pos 0

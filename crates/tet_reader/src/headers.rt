@@ -4,7 +4,7 @@ ghost use Rattle.std.specs.Str.Parse.{signed_digits_value};
 ghost use Rattle.text_scan.specs.Numbers.{is_whole};
 ghost use Rattle.text_scan.specs.Tables.{row_at};
 ghost use Rattle.tet_reader.specs.Tests.{first, is_within as IsWithin};
-ghost use Rattle.tet_reader.specs.Headers.{header_numbers, node_number_tests, ele_number_tests};
+ghost use Rattle.tet_reader.specs.Headers.{number_at, header_numbers, node_number_tests, ele_number_tests};
 ghost use Rattle.tet_reader.specs.Faults.{fault_at as FaultAt, first_number as FirstNumber, node_fault, ele_fault};
 ghost use Rattle.tet_reader.specs.Answers.{HeadsNode, HeadsEle, ReadsHeader};
 
@@ -54,9 +54,9 @@ pub(crate) fn node_header(rows: &Rows) -> Result<NodeHeader, MeshFault>
     match node_number_fault(&numbers) {
         Some(what) => Err(fault_at(MeshFile::Node, numbers.at(0), rows.line(0), what)),
         None => Ok(NodeHeader {
-            points: size_of(numbers.at(0)),
-            attributes: size_of(numbers.at(2)),
-            markers: size_of(numbers.at(3)),
+            points: size_at(&numbers, 0),
+            attributes: size_at(&numbers, 2),
+            markers: size_at(&numbers, 3),
         }),
     }
 }
@@ -75,8 +75,8 @@ pub(crate) fn ele_header(rows: &Rows, points: u32, base: u32) -> Result<EleHeade
     match ele_number_fault(&numbers) {
         Some(what) => Err(fault_at(MeshFile::Ele, numbers.at(0), rows.line(0), what)),
         None => Ok(EleHeader {
-            cells: size_of(numbers.at(0)),
-            attributes: size_of(numbers.at(2)),
+            cells: size_at(&numbers, 0),
+            attributes: size_at(&numbers, 2),
         }),
     }
 }
@@ -168,10 +168,11 @@ fn is_within(number: i64, most: u32) -> bool
     number >= 0 && number <= i64::from(most)
 }
 
-/// The number without its sign.
-fn size_of(number: i64) -> u32
-    requires { nat_abs number < 2 ^ 32 }
-    ensures { result ≡ nat_abs number }
+/// The number at a place, without its sign.
+fn size_at(numbers: &NumberRow, place: usize) -> u32
+    requires inside { place < length numbers.now }
+    requires few { nat_abs (number_at numbers.now place) < 2 ^ 32 }
+    ensures { result ≡ nat_abs (number_at numbers.now place) }
 {
-    number.unsigned_abs() as u32
+    numbers.at(place).unsigned_abs() as u32
 }

@@ -7,4 +7,7 @@ mod kinds;
 pub mod laws;
 mod misfit;
 mod number_row;
+mod points;
 mod words;
+
+pub use points::read_points;
