@@ -2,6 +2,7 @@ pub mod CellRows
 pub mod Faces
 pub mod Headers
 pub mod Keys
+pub mod LeastRepeat
 pub mod Lists
 pub mod Loop
 pub mod Misfits
