@@ -30,9 +30,11 @@ one_of true false n h e = omega (arith, e)
 one_of false true n h e = omega (arith, e)
 one_of false false n h e = omega (arith, e)
 
+-- equality of numbers goes both ways
 pub same_either_way : (x y : ℕ) → (x == y) ≡ (y == x)
 same_either_way x y = grind (arith, nat_tests)
 
+-- so it is counted once where it is in the list
 once : (x : ℕ) (ys : List ℕ) → are_different ys ≡ true → count_by (λ y. x == y) ys ≡ cond (is_in ys x) 1 0
 once x [] d = refl
 once x (y ∷ ys) d =
@@ -47,12 +49,14 @@ pub count_none : {A : Type 0} (p : A → Bool) (xs : List A) → ((x : A) → p 
 count_none p [] h = refl
 count_none p (x ∷ xs) h = rw (count_more p x xs) (rw (h x) (omega (arith, count_none p xs h)))
 
+-- one more member for one of two such tests
 add_one_of : (b t : Bool) (m n : ℕ) → (b ≡ true → t ≡ false) → cond (b || t) 1 0 + (m + n) ≡ (cond b 1 0 + m) + (cond t 1 0 + n)
 add_one_of true true m n h = absurd (both_ways true (h refl) refl)
 add_one_of true false m n h = omega arith
 add_one_of false true m n h = omega arith
 add_one_of false false m n h = omega arith
 
+-- the two together pass as often as one and the other
 count_either : {A : Type 0} (p q : A → Bool) (xs : List A) → ((x : A) → p x ≡ true → q x ≡ false)
     → count_by (λ x. p x || q x) xs ≡ count_by p xs + count_by q xs
 count_either p q [] h = refl
@@ -71,6 +75,7 @@ common (x ∷ xs) ys d e =
     count_either (λ v. x == v) (is_in xs) ys out
     ∙ cc (once x ys e, common xs ys parts.1 e, count_more (is_in ys) x xs)
 
+-- a test and itself
 and_same : (b : Bool) → (b && b) ≡ b
 and_same true = refl
 and_same false = refl
@@ -119,6 +124,7 @@ abbrev pub AreApart : ℕ → ℕ → ℕ → ℕ → Type 0
 AreApart a b c d =
     ((b == a) ≡ false) × ((c == a) ≡ false) × ((d == a) ≡ false) × ((c == b) ≡ false) × ((d == b) ≡ false) × ((d == c) ≡ false)
 
+-- are different each
 pub apart : (a b c d : ℕ) → are_different (a ∷ b ∷ c ∷ d ∷ []) ≡ true → AreApart a b c d
 apart a b c d e =
     let one = and_parts (not (is_in (b ∷ c ∷ d ∷ []) a)) (are_different (b ∷ c ∷ d ∷ [])) e in
@@ -135,6 +141,7 @@ apart a b c d e =
       (or_parts (d == c) false (not-true _ three.0)).0,
     )
 
+-- three numbers that are different each have no repeat
 are_three : (x y z : ℕ) → (y == x) ≡ false → (z == x) ≡ false → (z == y) ≡ false → are_different (x ∷ y ∷ z ∷ []) ≡ true
 are_three x y z e f g = rw (e, f, g) refl
 
@@ -142,6 +149,7 @@ are_three x y z e f g = rw (e, f, g) refl
 abbrev pub IsTriple : List ℕ → Type 0
 IsTriple face = (length face ≡ 3) × (are_different face ≡ true)
 
+-- so the faces of four different corners are triples
 pub faces_are_triples : (a b c d : ℕ) → are_different (a ∷ b ∷ c ∷ d ∷ []) ≡ true
     → IsTriple (b ∷ c ∷ d ∷ []) × IsTriple (a ∷ d ∷ c ∷ []) × IsTriple (a ∷ b ∷ d ∷ []) × IsTriple (a ∷ c ∷ b ∷ [])
 faces_are_triples a b c d e =

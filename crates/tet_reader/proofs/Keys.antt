@@ -33,6 +33,7 @@ all_at p (y ∷ ys) v h m =
       | inr n ↦ all_at p ys v parts.1 n
     ]
 
+-- and the other way round
 pub all_by : (p : ℕ → Bool) (ys : List ℕ) → ((v : ℕ) → is_in ys v ≡ true → p v ≡ true) → list_all p ys ≡ true
 all_by p [] h = refl
 all_by p (y ∷ ys) h =
@@ -44,6 +45,7 @@ pub same_from : (xs ys : List ℕ) → ((v : ℕ) → is_in xs v ≡ is_in ys v)
 same_from xs ys h =
     and_from (includes xs ys) (includes ys xs) (all_by (is_in xs) ys (λ v m. h v ∙ m)) (all_by (is_in ys) xs (λ v m. sym (h v) ∙ m))
 
+-- and the other way round
 pub same_at : (xs ys : List ℕ) → same_members xs ys ≡ true → (v : ℕ) → is_in xs v ≡ is_in ys v
 same_at xs ys h v =
     let parts = and_parts (includes xs ys) (includes ys xs) h in
@@ -57,6 +59,7 @@ above x (y ∷ ys) v h m = elim (or_cases (y == v) (is_in ys v) m) [
   | inr n ↦ above x ys v h.1 n
 ]
 
+-- the first is a member, and no member of a rising list is less
 first_in : (x : ℕ) (xs : List ℕ) → is_in (x ∷ xs) x ≡ true
 first_in x xs = or_left (x == x) (is_in xs x) (eq-eqb x x refl)
 
@@ -66,6 +69,7 @@ least_first y ys x s m = elim (or_cases (y == x) (is_in ys x) m) [
   | inr n ↦ omega (arith, above y ys x (sorted_head nat_cmp y ys s) n)
 ]
 
+-- a member behind the first is one of the other list behind its first
 still_in : (x y : ℕ) (xs ys : List ℕ) (v : ℕ) → IsStrictlySortedBy nat_cmp (x ∷ xs) → x ≡ y → is_in (x ∷ xs) v ≡ is_in (y ∷ ys) v
     → is_in xs v ≡ true → is_in ys v ≡ true
 still_in x y xs ys v r e h m = elim (or_cases (y == v) (is_in ys v) (sym h ∙ or_right (x == v) (is_in xs v) m)) [
@@ -73,6 +77,7 @@ still_in x y xs ys v r e h m = elim (or_cases (y == v) (is_in ys v) (sym h ∙ o
   | inr n ↦ n
 ]
 
+-- so the lists are one
 pub same_rising : (xs ys : List ℕ) → IsStrictlySortedBy nat_cmp xs → IsStrictlySortedBy nat_cmp ys → ((v : ℕ) → is_in xs v ≡ is_in ys v)
     → xs ≡ ys
 same_rising [] [] r s h = refl
@@ -88,6 +93,7 @@ same_rising (x ∷ xs) (y ∷ ys) r s h =
 
 -- ---- rows
 
+-- lists without repeats, in the words of the library
 distinct : (xs : List ℕ) → are_different xs ≡ true → IsDistinct eqb xs
 unfolding IsDistinct
 distinct [] d = tt

@@ -3,6 +3,7 @@ pub mod Faces
 pub mod HeaderTests
 pub mod HeaderWords
 pub mod Keys
+pub mod LeastRepeat
 pub mod Lists
 pub mod Misfits
 pub mod Placed

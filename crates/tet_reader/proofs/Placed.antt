@@ -1,7 +1,7 @@
 -- The least place of a piece that so many earlier cells have is the place of the first cell that has one.
 use Rattle.std.proofs.Common.{◌≡◌, ℕ, ◌+◌, ◌<◌, ◌≤◌, ◌==◌, ◌&&◌, ◌||◌, nat_lt, cond, min, Bool, true, false, Option, Some, None}
-use Rattle.std.proofs.Common.{List, [], ◌∷◌, ◌++◌, length, map, refl, sym, ap, ◌∙◌, inl, inr, arith, eqb-true, eq-eqb, ne_eqb, ◌≢◌, lt-ltb, le-ltb}
-use Rattle.std.proofs.Common.{append_assoc, length-append, le_antisymm}
+use Rattle.std.proofs.Common.{List, [], ◌∷◌, ◌++◌, length, map, refl, sym, ap, ◌∙◌, inl, inr, arith, eqb-true, eq-eqb, ne_eqb, ◌≢◌}
+use Rattle.std.proofs.Common.{append_assoc, length-append, le_antisymm, lt-ltb, le-ltb}
 use Rattle.std.specs.List.{list_any, count_by, fold, reduce}
 use Rattle.std.proofs.lemmas.Bool.{both_ways, and_from, and_left, and_right, or_cases, or_left, or_right, or_from, cases_lt}
 use Rattle.std.proofs.lemmas.List.Folds.{list_any-append}
@@ -18,6 +18,7 @@ abbrev pub IsLeast : (ℕ → Bool) → Option ℕ → Type 0
 IsLeast p None = (n : ℕ) → p n ≡ false
 IsLeast p (Some m) = (p m ≡ true) × ((n : ℕ) → p n ≡ true → m ≤ n)
 
+-- there is one least number, and tests that are one have the same
 pub one_least : (p : ℕ → Bool) (r s : Option ℕ) → IsLeast p r → IsLeast p s → r ≡ s
 one_least p None None f g = refl
 one_least p None (Some m) f g = absurd (both_ways (p m) (f m) g.0)
@@ -59,19 +60,23 @@ least_among x (y ∷ ys) =
     found e =
         let r = fold min (min x y) ys in
         elim (or_cases (min x y == r) (is_in ys r) e) [
-          | inl f ↦ elim (cases_lt x y) [
-            | inl l ↦ or_left (x == r) (is_in (y ∷ ys) r) (eq-eqb x r (omega (arith, eqb-true (min x y) r f)))
-            | inr l ↦ or_right (x == r) (is_in (y ∷ ys) r) (or_left (y == r) (is_in ys r) (eq-eqb y r (omega (arith, eqb-true (min x y) r f))))
-          ]
+          | inl f ↦
+              let is = eqb-true (min x y) r f in
+              elim (cases_lt x y) [
+                | inl l ↦ or_left (x == r) (is_in (y ∷ ys) r) (eq-eqb x r (omega arith))
+                | inr l ↦ or_right (x == r) (is_in (y ∷ ys) r) (or_left (y == r) (is_in ys r) (eq-eqb y r (omega arith)))
+              ]
           | inr f ↦ or_right (x == r) (is_in (y ∷ ys) r) (or_right (y == r) (is_in ys r) f)
         ]
 
+-- which `reduce` gives
 pub reduce_least : (xs : List ℕ) → IsLeast (is_in xs) (reduce min xs)
 reduce_least [] = λ n. refl
 reduce_least (x ∷ xs) = least_among x xs
 
 -- ---- tests of lists
 
+-- tests that are one, tests of values, of two lists, and ones that fail or don't depend on the member
 pub any_same : {A : Type 0} (p q : A → Bool) (xs : List A) → ((x : A) → p x ≡ q x) → list_any p xs ≡ list_any q xs
 any_same p q [] h = refl
 any_same p q (x ∷ xs) h = cc (h x, any_same p q xs h)
@@ -80,6 +85,7 @@ any_map : {A B : Type 0} (p : B → Bool) (f : A → B) (xs : List A) → list_a
 any_map p f [] = refl
 any_map p f (x ∷ xs) = ap (λ b. p (f x) || b) (any_map p f xs)
 
+-- their counts
 count_map : {A B : Type 0} (p : B → Bool) (f : A → B) (xs : List A) → count_by p (map f xs) ≡ count_by (λ x. p (f x)) xs
 count_map p f [] = refl
 count_map p f (x ∷ xs) = cc (count_more p (f x) (map f xs), count_more (λ y. p (f y)) x xs, count_map p f xs)
@@ -126,7 +132,11 @@ none_earlier corners place start (pieces ∷ cells) l =
     let test = is_earlier (corners, place) in
     let here = λ (piece : List ℕ). and_right (same_members piece corners) (nat_lt start place) (le-ltb start place l) in
     count_append test (map (λ piece. (piece, start)) pieces) (placed (start + 1) cells)
-    ∙ cc (count_map test (λ piece. (piece, start)) pieces, count_none (λ piece. test (piece, start)) pieces here, none_earlier corners place (start + 1) cells (omega arith))
+    ∙ cc (
+      count_map test (λ piece. (piece, start)) pieces,
+      count_none (λ piece. test (piece, start)) pieces here,
+      none_earlier corners place (start + 1) cells (omega arith),
+    )
 
 -- those in front of a place are
 all_earlier : (corners : List ℕ) (place start : ℕ) (before after : List (List (List ℕ))) → place ≡ start + length before
@@ -145,6 +155,7 @@ all_earlier corners place start (pieces ∷ before) after e =
 
 -- ---- the first cell
 
+-- a piece with this place that passes
 abbrev stands_at : (List ℕ × ℕ → Bool) → ℕ → List ℕ × ℕ → Bool
 stands_at test place piece = (piece.1 == place) && test piece
 
@@ -155,8 +166,9 @@ none_below test start place [] l = refl
 none_below test start place (pieces ∷ cells) l =
     let ne : start ≢ place = omega arith in
     let here = λ (piece : List ℕ). and_left (start == place) (test (piece, start)) (ne_eqb start place ne) in
-    list_any-append (stands_at test place) (map (λ piece. (piece, start)) pieces) (placed (start + 1) cells)
-    ∙ or_from (list_any (stands_at test place) (map (λ piece. (piece, start)) pieces)) (list_any (stands_at test place) (placed (start + 1) cells))
+    let front : List (List ℕ × ℕ) = map (λ piece. (piece, start)) pieces in
+    list_any-append (stands_at test place) front (placed (start + 1) cells)
+    ∙ or_from (list_any (stands_at test place) front) (list_any (stands_at test place) (placed (start + 1) cells))
     (any_map (stands_at test place) (λ piece. (piece, start)) pieces ∙ any_none (λ piece. stands_at test place (piece, start)) pieces here)
     (none_below test (start + 1) place cells (omega arith))
 
@@ -172,32 +184,32 @@ least_step : (test : List ℕ × ℕ → Bool) (place : ℕ) (pieces : List (Lis
     → IsLeast (λ m. list_any (stands_at test m) (placed (place + 1) rest)) (first_true (place + 1) tests)
     → IsLeast (λ m. list_any (stands_at test m) (placed place (pieces ∷ rest))) (first_true place (b ∷ tests))
 least_step test place pieces rest b tests e more = go b e more where
-  here : (m : ℕ) → list_any (stands_at test m) (map (λ piece. (piece, place)) pieces) ≡ ((place == m) && list_any (λ piece. test (piece, place)) pieces)
-  here m = any_map (stands_at test m) (λ piece. (piece, place)) pieces ∙ any_and (place == m) (λ piece. test (piece, place)) pieces
+  here : Bool
+  here = list_any (λ piece. test (piece, place)) pieces
 
-  parted : (m : ℕ) → list_any (stands_at test m) (placed place (pieces ∷ rest))
-      ≡ (((place == m) && list_any (λ piece. test (piece, place)) pieces) || list_any (stands_at test m) (placed (place + 1) rest))
+  behind : ℕ → Bool
+  behind m = list_any (stands_at test m) (placed (place + 1) rest)
+
+  all : ℕ → Bool
+  all m = list_any (stands_at test m) (placed place (pieces ∷ rest))
+
+  parted : (m : ℕ) → all m ≡ (((place == m) && here) || behind m)
   parted m =
       list_any-append (stands_at test m) (map (λ piece. (piece, place)) pieces) (placed (place + 1) rest)
-      ∙ ap (λ t. t || list_any (stands_at test m) (placed (place + 1) rest)) (here m)
+      ∙ ap (λ t. t || behind m) (any_map (stands_at test m) (λ piece. (piece, place)) pieces)
+      ∙ ap (λ t. t || behind m) (any_and (place == m) (λ piece. test (piece, place)) pieces)
 
-  go : (b : Bool) → list_any (λ piece. test (piece, place)) pieces ≡ b
-      → IsLeast (λ m. list_any (stands_at test m) (placed (place + 1) rest)) (first_true (place + 1) tests)
-      → IsLeast (λ m. list_any (stands_at test m) (placed place (pieces ∷ rest))) (first_true place (b ∷ tests))
+  go : (b : Bool) → here ≡ b → IsLeast behind (first_true (place + 1) tests) → IsLeast all (first_true place (b ∷ tests))
   go true e more = (
-    parted place ∙ or_left ((place == place) && list_any (λ piece. test (piece, place)) pieces) (list_any (stands_at test place) (placed (place + 1) rest))
-        (and_from (place == place) (list_any (λ piece. test (piece, place)) pieces) (eq-eqb place place refl) e),
+    parted place ∙ or_left ((place == place) && here) (behind place) (and_from (place == place) here (eq-eqb place place refl) e),
     λ n t. elim (cases_lt n place) [
-      | inl lt ↦ absurd (both_ways (list_any (stands_at test n) (placed place (pieces ∷ rest))) (none_below test place n (pieces ∷ rest) lt) t)
+      | inl lt ↦ absurd (both_ways (all n) (none_below test place n (pieces ∷ rest) lt) t)
       | inr ge ↦ ge
     ],
   )
   go false e more =
-      let same : (n : ℕ) → list_any (stands_at test n) (placed (place + 1) rest) ≡ list_any (stands_at test n) (placed place (pieces ∷ rest)) = λ n.
-      let out = and_right (place == n) (list_any (λ piece. test (piece, place)) pieces) e in
-      sym (parted n ∙ ap (λ t. t || list_any (stands_at test n) (placed (place + 1) rest)) out) in
-      least_of (λ m. list_any (stands_at test m) (placed (place + 1) rest)) (λ m. list_any (stands_at test m) (placed place (pieces ∷ rest)))
-      (first_true (place + 1) tests) same more
+      let same = λ (n : ℕ). sym (parted n ∙ ap (λ t. t || behind n) (and_right (place == n) here e)) in
+      least_of behind all (first_true (place + 1) tests) same more
 
 -- then the least place of a piece that passes is the first cell's of which the other is true
 least_along : (test : List ℕ × ℕ → Bool) (said : List (List (List ℕ)) → List (List ℕ) → Bool) (all : List (List (List ℕ)))
@@ -211,19 +223,24 @@ least_along test said all h before (pieces ∷ rest) e place p =
     least_step test place pieces rest (said before pieces) (along said (before ++ pieces ∷ []) rest) this
     (least_along test said all h (before ++ pieces ∷ []) rest split (place + 1) next)
 
--- The least place of a piece that more than so many earlier ones have.
+-- a piece with this place that more than so many earlier ones have; the least such place
 abbrev pub has_earlier : ℕ → List (List ℕ × ℕ) → ℕ → Bool
 has_earlier few pieces place = list_any (λ piece. (piece.1 == place) && nat_lt few (count_by (is_earlier piece) pieces)) pieces
 
-pub least_again : (few : ℕ) (cells : List (List (List ℕ))) → IsLeast (has_earlier few (placed 0 cells)) (first_true 0 (along (again few) [] cells))
+-- is that of the first cell of which it is true
+pub least_again : (few : ℕ) (cells : List (List (List ℕ)))
+    → IsLeast (has_earlier few (placed 0 cells)) (first_true 0 (along (again few) [] cells))
 least_again few cells = least_along test (again few) cells agrees [] cells refl 0 refl where
   test : List ℕ × ℕ → Bool
   test piece = nat_lt few (count_by (is_earlier piece) (placed 0 cells))
 
-  agrees : Agrees test (again few) cells
-  agrees before pieces after e =
-      any_same (λ piece. test (piece, length before)) (λ piece. nat_lt few (held piece before)) pieces
-      (λ piece. ap (λ n. nat_lt few n) (
+  count : (before : List (List (List ℕ))) (pieces : List (List ℕ)) (after : List (List (List ℕ))) → cells ≡ before ++ pieces ∷ after
+      → (piece : List ℕ) → test (piece, length before) ≡ nat_lt few (held piece before)
+  count before pieces after e piece = ap (λ n. nat_lt few n) (
       ap (λ l. count_by (is_earlier (piece, length before)) (placed 0 l)) e
       ∙ all_earlier piece (length before) 0 before (pieces ∷ after) (omega arith)
-      ))
+      )
+
+  agrees : Agrees test (again few) cells
+  agrees before pieces after e =
+      any_same (λ piece. test (piece, length before)) (λ piece. nat_lt few (held piece before)) pieces (count before pieces after e)

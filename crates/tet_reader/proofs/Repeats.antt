@@ -1,6 +1,7 @@
 -- In sorted rows, of which no two are one, a row has the key of the row so many before it exactly where so many rows of its key
 -- have lesser places.
-use Rattle.std.proofs.Common.{◌≡◌, ◌⊎◌, ℕ, zero, suc, ◌+◌, ◌-◌, ◌<◌, ◌≤◌, ◌==◌, ◌&&◌, ◌||◌, nat_lt, cond, Bool, true, false, List, [], ◌∷◌, length, get_or, map, drop}
+use Rattle.std.proofs.Common.{◌≡◌, ◌⊎◌, ℕ, zero, suc, ◌+◌, ◌-◌, ◌<◌, ◌≤◌, ◌==◌, ◌&&◌, ◌||◌, nat_lt, cond, Bool, true, false}
+use Rattle.std.proofs.Common.{List, [], ◌∷◌, length, get_or, map, drop}
 use Rattle.std.proofs.Common.{refl, sym, ap, subst, ◌∙◌, inl, inr, arith, lt-ltb, le-ltb, ltb-true, Ordering, Less, Equal, Greater, nat_cmp}
 use Rattle.std.specs.Cmp.{IsTotalOrder}
 use Rattle.std.specs.List.{list_any, count_by, filter, zip, IsDistinct}
@@ -58,6 +59,7 @@ at_most p (x ∷ xs) d zero (suc n) h =
 abbrev pub row_order : {K : Type 0} → (K → K → Ordering) → Row K → Row K → Ordering
 row_order R x y = ordering_then (R x.key y.key) (nat_cmp x.place y.place)
 
+-- this is an order
 pub row_order_total : {K : Type 0} {R : K → K → Ordering} → IsTotalOrder R → IsTotalOrder (row_order R)
 row_order_total o = then_total (on_total (λ r. r.key) o) (on_total (λ r. r.place) nat_cmp_total)
 
@@ -65,6 +67,7 @@ row_order_total o = then_total (on_total (λ r. r.key) o) (on_total (λ r. r.pla
 abbrev pub is_before : {K : Type 0} → (K → K → Ordering) → Row K → Row K → Bool
 is_before R row other = is_eq (R other.key row.key) && nat_lt other.place row.place
 
+-- one of two answers of an order that are each other's reverse
 less_from : (a b : Ordering) → a ≡ ordering_reverse b → is_lt b ≡ false → is_eq a ≡ false → a ≡ Less
 less_from Less b e l n = refl
 less_from Equal b e l n = absurd (both_ways true n refl)
@@ -88,27 +91,29 @@ pub record AreInOrder {K : Type 0} (R : K → K → Ordering) (rows : List (Row 
 later : {K : Type 0} {R : K → K → Ordering} {rows : List (Row K)} → AreInOrder R rows → (i j : ℕ) (d : Row K) → i < j → j < length rows
     → row_order R (get_or rows i d) (get_or rows j d) ≡ Less
 later {K} {R} {rows} h i j d l m =
-    let o = row_order_total h.total in
-    let next : (k : ℕ) → k + 1 < length rows → row_order R (get_or rows k d) (get_or rows (k + 1) d) ≡ Less = λ k s.
-    let x = get_or rows k d in
-    let y = get_or rows (k + 1) d in
-    less_from (row_order R x y) (row_order R y x) (o.antisymm x y) (h.sorted k d (omega arith) s)
-    (apart_from_distinct (eq_by_cmp (row_order R)) rows k (k + 1) d h.apart (omega arith) s) in
-    Less-from_sorted (row_order R) rows i j d (sorted_from_all_adjacent o rows d next) l m
+    Less-from_sorted (row_order R) rows i j d (sorted_from_all_adjacent (row_order_total h.total) rows d next) l m
+  where
+    next : (k : ℕ) → k + 1 < length rows → row_order R (get_or rows k d) (get_or rows (k + 1) d) ≡ Less
+    next k s =
+        let x = get_or rows k d in
+        let y = get_or rows (k + 1) d in
+        let other = apart_from_distinct (eq_by_cmp (row_order R)) rows k (k + 1) d h.apart (omega arith) s in
+        less_from (row_order R x y) (row_order R y x) ((row_order_total h.total).antisymm x y) (h.sorted k d (omega arith) s) other
 
 -- the key of no row is greater than that of a later one
 key_order : {K : Type 0} {R : K → K → Ordering} {rows : List (Row K)} → AreInOrder R rows → (i j : ℕ) (d : Row K) → i ≤ j
     → j < length rows → is_gt (R (get_or rows i d).key (get_or rows j d).key) ≡ false
-key_order {K} {R} {rows} h i j d l m = elim (cases_lt i j) [
-  | inl lt ↦ elim (row_less (R (get_or rows i d).key (get_or rows j d).key) (get_or rows i d).place (get_or rows j d).place (later h i j d lt m)) [
-    | inl e ↦ ap is_gt e
-    | inr e ↦ ap is_gt e.0
-  ]
-  | inr ge ↦
-      let same : i ≡ j = omega arith in
-      subst (λ k. is_gt (R (get_or rows i d).key (get_or rows k d).key) ≡ false) same (ap is_gt (tied_itself h.total (get_or rows i d).key))
-]
+key_order {K} {R} {rows} h i j d l m =
+    let x = get_or rows i d in
+    let y = get_or rows j d in
+    elim (cases_lt i j) [
+      | inl lt ↦ elim (row_less (R x.key y.key) x.place y.place (later h i j d lt m)) [ inl e ↦ ap is_gt e | inr e ↦ ap is_gt e.0 ]
+      | inr ge ↦
+          let same : i ≡ j = omega arith in
+          subst (λ k. is_gt (R x.key (get_or rows k d).key) ≡ false) same (ap is_gt (tied_itself h.total x.key))
+    ]
 
+-- and where neither is greater
 equal_from : (a b : Ordering) → a ≡ ordering_reverse b → is_gt a ≡ false → is_gt b ≡ false → a ≡ Equal
 equal_from Less Less e f g = cc
 equal_from Less Equal e f g = cc
@@ -135,6 +140,7 @@ before_earlier {K} {R} {rows} h k j d l m =
       | inr e ↦ rw (e.0, lt-ltb (get_or rows k d).place (get_or rows j d).place e.1) refl
     ]
 
+-- and none of those behind it
 before_later : {K : Type 0} {R : K → K → Ordering} {rows : List (Row K)} → AreInOrder R rows → (k j : ℕ) (d : Row K) → j ≤ k
     → k < length rows → is_before R (get_or rows j d) (get_or rows k d) ≡ false
 before_later {K} {R} {rows} h k j d l m =
@@ -144,7 +150,9 @@ before_later {K} {R} {rows} h k j d l m =
     λ le. and_right (is_eq (R x.key y.key)) (nat_lt x.place y.place) (le-ltb x.place y.place le) in
     elim (cases_lt j k) [
       | inl lt ↦ elim (row_less (R y.key x.key) y.place x.place (later h j k d lt m)) [
-        | inl e ↦ and_left (is_eq (R x.key y.key)) (nat_lt x.place y.place) (ap is_eq (h.total.antisymm x.key y.key ∙ ap ordering_reverse e))
+        | inl e ↦
+            let greater = h.total.antisymm x.key y.key ∙ ap ordering_reverse e in
+            and_left (is_eq (R x.key y.key)) (nat_lt x.place y.place) (ap is_eq greater)
         | inr e ↦ by_place (omega (arith, e.1))
       ]
       | inr ge ↦
@@ -161,6 +169,7 @@ counted {K} {R} {rows} h few i j d s l e =
     let many = at_least (is_before R (get_or rows j d)) rows d i (suc few) (omega arith) each in
     omega arith
 
+-- the test is this answer
 equal_is : (o : Ordering) → is_eq o ≡ true → o ≡ Equal
 equal_is Less e = absurd (both_ways false refl e)
 equal_is Equal e = refl
@@ -178,7 +187,7 @@ uncounted {K} {R} {rows} h few j d l c = elim (cases_lt few j) [
         | inr e ↦ absurd (too_many i (omega arith) e)
       ]
   | inr ge ↦
-      let most = at_most (is_before R (get_or rows j d)) rows d 0 j (λ k m e. let f : k < j = in_front k m e in (omega arith, omega arith)) in
+      let most = at_most (is_before R (get_or rows j d)) rows d 0 j (λ k m e. (omega arith, omega (arith, in_front k m e))) in
       absurd (omega arith)
 ]
   where
@@ -230,6 +239,7 @@ pair_at xs back i j d s l =
     get_or-zip xs (drop back xs) i (d, d) (omega arith) within
     ∙ ap (λ x. (get_or xs i d, x)) (get_or-drop back xs i d ∙ ap (λ k. get_or xs k d) where_is)
 
+-- how many pairs there are
 pairs_length : {A : Type 0} (xs : List A) (back i : ℕ) → i < length (zip xs (drop back xs)) → i + back < length xs
 pairs_length xs back i l = omega (arith, length-zip xs (drop back xs), length-drop back xs)
 
@@ -282,4 +292,5 @@ repeats_are {K} {R} {rows} h same same_is few back back_is place =
         let x = get_or rows u.0 d in
         let key = same_is x.key y.key ∙ ap is_eq u.2 in
         list_any_at repeated (zip rows (drop back rows)) u.0 (d, d) (length_of_pairs rows back u.0 (omega arith))
-        (subst (λ z. repeated z ≡ true) (sym (pair_at rows back u.0 a.0 d s a.2)) (and_from (same x.key y.key) (y.place == place) key parts.0))
+        (subst (λ z. repeated z ≡ true) (sym (pair_at rows back u.0 a.0 d s a.2))
+        (and_from (same x.key y.key) (y.place == place) key parts.0))

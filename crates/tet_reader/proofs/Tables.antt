@@ -7,6 +7,7 @@ use Rattle.tet_reader.specs.declared.misfit.Row.{Row}
 use Rattle.tet_reader.specs.Repeats.{placed, IsRow}
 use Rattle.tet_reader.proofs.Tests.{zip_append}
 
+-- the pieces of some cells and of further ones
 placed_append : (start : ℕ) (xs ys : List (List (List ℕ))) → placed start (xs ++ ys) ≡ placed start xs ++ placed (start + length xs) ys
 placed_append start [] ys = ap (λ n. placed n ys) (omega arith)
 placed_append start (x ∷ xs) ys =
@@ -29,10 +30,12 @@ placed_more pieces cells place d l =
     ∙ ap (λ n. placed 0 front ++ placed n (pieces cell ∷ [])) count
     ∙ ap (λ more. placed 0 front ++ more) (append-nil (map (λ piece. (piece, place)) (pieces cell)))
 
+-- the rows of one more cell
 pub rows_more : {A : Type 0} (pieces : A → List (List ℕ)) (cells : List A) (place : ℕ) (d : A) (rows more : List (Row (List ℕ)))
     → place < length cells → AllZip IsRow rows (placed 0 (map pieces (take place cells)))
     → AllZip IsRow more (map (λ piece. (piece, place)) (pieces (get_or cells place d)))
     → AllZip IsRow (rows ++ more) (placed 0 (map pieces (take (place + 1) cells)))
 rows_more pieces cells place d rows more l z new =
     subst (λ all. AllZip IsRow (rows ++ more) all) (sym (placed_more pieces cells place d l))
-    (zip_append IsRow rows more (placed 0 (map pieces (take place cells))) (map (λ piece. (piece, place)) (pieces (get_or cells place d))) z new)
+    (zip_append IsRow rows more (placed 0 (map pieces (take place cells))) (map (λ piece. (piece, place)) (pieces (get_or cells place d)))
+    z new)

@@ -31,7 +31,8 @@ cell_at what (true ∷ tests) (row ∷ rows) start line l h =
     let here : start ≡ start + 0 = omega arith in
     ap (λ n. Some (fault_at Ele (pos 0) n what)) (sym (h 0) ∙ ap line (sym here))
 cell_at what (false ∷ tests) (row ∷ rows) start line l h =
-    cell_at what tests rows (start + 1) line (omega arith) (λ k. let next : (start + 1) + k ≡ start + suc k = omega arith in ap line next ∙ h (suc k))
+    let next : (k : ℕ) → (start + 1) + k ≡ start + suc k = λ k. omega arith in
+    cell_at what tests rows (start + 1) line (omega arith) (λ k. ap line (next k) ∙ h (suc k))
 
 -- the first of two lists of tests, one after the other
 first_one : {A : Type 0} (o : Option A) → o ≡ first (o ∷ [])
@@ -50,6 +51,7 @@ map_first f g h None None = refl
 map_first f g h None (Some y) = refl
 map_first f g h (Some x) y = refl
 
+-- so the first of the tests of the whole mesh is the fault of its first misfit
 pub first_whole_fault : (base : ℕ) (rows : List Row)
     → first (whole_tests base rows) ≡ option_map (misfit_fault rows) (first_misfit (map (λ row. row_corners base row.words) rows))
 first_whole_fault base rows =

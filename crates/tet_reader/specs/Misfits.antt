@@ -13,10 +13,12 @@ first_true place [] = None
 first_true place (true ∷ tests) = Some place
 first_true place (false ∷ tests) = first_true (place + 1) tests
 
+-- a cell by its place and what is wrong with it
 abbrev pub misfit : MeshWhat → ℕ → Misfit
 misfit what place = record { place = place; what = what }
 
--- The first cell that no mesh may have, by its place and what is wrong: a cell that comes again, or else one that is the third with some face.
+-- The first cell that no mesh may have, by its place and what is wrong: a cell that comes again, or else one that is the third
+-- with some face.
 abbrev pub first_misfit : List (List ℕ) → Option Misfit
 first_misfit cells = first
     (option_map (misfit CellTwice) (first_true 0 (along comes_again [] cells))

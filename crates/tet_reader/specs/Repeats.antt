@@ -1,7 +1,7 @@
 -- Sorted rows of a key and a place, which private functions and proofs cite: rows whose key a row before has too, and the rows of
 -- the pieces of cells. This project's own.
 use Rattle.std.specs.Prelude.{◌≡◌, ℕ, ◌+◌, Bool, List, [], ◌∷◌, ◌++◌, map, drop}
-use Rattle.std.specs.List.{filter, zip, AllZip}
+use Rattle.std.specs.List.{filter, zip}
 use Rattle.std.specs.List.Sorted.{IsPermutation, IsSorted}
 use Rattle.std.specs.Ordering.{nat_cmp}
 use Rattle.tet_reader.specs.declared.misfit.Row.{Row}
@@ -24,6 +24,3 @@ pub record IsRow (row : Row (List ℕ)) (piece : List ℕ × ℕ) : Type 0 where
   pub permuted : IsPermutation piece.0 row.key
   pub ordered : IsSorted nat_cmp row.key
   pub place_is : row.place ≡ piece.1
-
-abbrev pub AreRows : List (Row (List ℕ)) → List (List ℕ × ℕ) → Type 0
-AreRows rows pieces = AllZip IsRow rows pieces

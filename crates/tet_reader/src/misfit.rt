@@ -1,7 +1,7 @@
-ghost use Rattle.std.specs.Prelude.{◌≡◌, ◌<◌, ◌^◌, ℕ, List, [], true, IfOk, length, map, min};
+ghost use Rattle.std.specs.Prelude.{◌≡◌, ◌<◌, ◌^◌, [], true, IfOk, length, map, min};
 ghost use Rattle.std.specs.List.{AllByRecursion, AllZip, reduce};
 ghost use Rattle.liszt_base.specs.Corners.{are_different, induced_cycles, along, comes_again, is_third};
-ghost use Rattle.tet_reader.specs.Misfits.{first_true, first_misfit as FirstMisfit};
+ghost use Rattle.tet_reader.specs.Misfits.{first_true, first_misfit};
 ghost use Rattle.tet_reader.specs.Repeats.{repeats, placed, alone, IsRow};
 
 use liszt_base::{MeshWhat, NoMemory, RawCell};
@@ -104,7 +104,7 @@ fn first_third(alloc: Global, cells: &[RawCell]) -> Result<Option<u32>, NoMemory
 /// Cells past 2^32 are more than memory holds rows for.
 pub(crate) fn first_misfit(alloc: Global, cells: &[RawCell]) -> Result<Option<Misfit>, NoMemory>
     requires { AllByRecursion (λ cell. (length cell.corners ≡ 4) × (are_different cell.corners ≡ true)) cells.now }
-    ensures { IfOk result (λ found. found ≡ FirstMisfit (map (λ cell. cell.corners) cells.now)) }
+    ensures { IfOk result (λ found. found ≡ first_misfit (map (λ cell. cell.corners) cells.now)) }
 {
     if u32::try_from(cells.len()).is_err() {
         return Err(NoMemory);

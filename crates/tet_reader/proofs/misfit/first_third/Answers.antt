@@ -8,4 +8,5 @@ use Rattle.tet_reader.proofs.misfit.first_third.Goals as goal
 pub returns : goal.returns
 returns c =
     c.least_repeat.ensures ∙ ap (λ rows. reduce min (repeats (pointwise eqb) 2 rows)) c.deref.ensures.value
-    ∙ third_is c.args.cells.now c.requires.corners c.in_ok-rows.rows.items c.sort_unstable.new.self.items c.in_ok-rows.ensures c.sort_unstable.ensures.permutation c.sort_unstable.ensures.sorted
+    ∙ third_is c.args.cells.now c.requires.corners c.in_ok-rows.rows.items c.sort_unstable.new.self.items c.in_ok-rows.ensures
+    c.sort_unstable.ensures.permutation c.sort_unstable.ensures.sorted

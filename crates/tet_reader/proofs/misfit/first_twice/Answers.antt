@@ -8,4 +8,5 @@ use Rattle.tet_reader.proofs.misfit.first_twice.Goals as goal
 pub returns : goal.returns
 returns c =
     c.least_repeat.ensures ∙ ap (λ rows. reduce min (repeats (pointwise eqb) 1 rows)) c.deref.ensures.value
-    ∙ twice_is c.args.cells.now c.requires.corners c.in_ok-rows.rows.items c.sort_unstable.new.self.items c.in_ok-rows.ensures c.sort_unstable.ensures.permutation c.sort_unstable.ensures.sorted
+    ∙ twice_is c.args.cells.now c.requires.corners c.in_ok-rows.rows.items c.sort_unstable.new.self.items c.in_ok-rows.ensures
+    c.sort_unstable.ensures.permutation c.sort_unstable.ensures.sorted
