@@ -1,20 +1,24 @@
 -- A cell's row: its tests find nothing exactly where it is some cell's row, and it is that of one cell.
-use Rattle.std.proofs.lemmas.Bool.{and_parts}
-use Rattle.std.proofs.Common.{◌≡◌, ℕ, zero, suc, ◌+◌, ◌-◌, nat_lt, true, List, [], ◌∷◌, ◌++◌, map, length, replicate, slice_index_or}
+use Rattle.std.proofs.lemmas.Bool.{and_parts, ltb-true, lt-ltb}
+use Rattle.std.proofs.Common.{◌≡◌, ℕ, zero, suc, ◌+◌, ◌-◌, nat_lt, ◌<◌, ◌^◌, ◌&&◌, true, None, List, [], ◌∷◌, ◌++◌, map, length, replicate, slice_index_or}
 use Rattle.std.proofs.Common.{refl, sym, ap, subst, ◌∙◌, arith}
-use Rattle.std.specs.Prelude.{ℤ, pos, Result, Ok}
-use Rattle.std.specs.List.{list_all, AllZip}
-use Rattle.std.proofs.lemmas.List.{length-map, take_at}
+use Rattle.std.specs.Prelude.{ℤ, pos, nat_abs, Result, Ok}
+use Rattle.std.specs.List.{list_all, AllZip, zip}
+use Rattle.std.proofs.lemmas.List.{length-map, length-append, take_at}
 use Rattle.liszt_base.specs.Corners.{are_different}
 use Rattle.liszt_base.specs.declared.mesh.RawCell.{RawCell}
 use Rattle.text_scan.specs.Numbers.{whole_of, millionths_of}
 use Rattle.text_scan.specs.declared.faults.NumberFault.{NumberFault}
 use Rattle.tet_reader.specs.declared.words.Word.TheVariants.{Real, Corner}
+use Rattle.tet_reader.specs.Tests.{first, row_tests}
+use Rattle.tet_reader.specs.Headers.{number_at}
+use Rattle.tet_reader.specs.Kinds.{number_or_zero, number_read, IsCorner, corner_of, region_of}
 use Rattle.tet_reader.specs.Points.{IsCellRow, Spell, first_or_zero}
 use Rattle.tet_reader.specs.Faults.{size_of, cell_words, row_corners}
 use Rattle.tet_reader.proofs.Tests.{Passes, zip_append, append_zip, number_takes, number_again, real_takes, real_again}
 use Rattle.tet_reader.proofs.Tests.{corner_takes, corner_again}
-use Rattle.tet_reader.proofs.Spelling.{same_parts, spell_length, one_spelling, spell_takes, spell_again}
+use Rattle.tet_reader.proofs.Tests.{each_none, row_takes}
+use Rattle.tet_reader.proofs.Spelling.{spelled_numbers, map_zip_append, same_parts, spell_length, one_spelling, spell_takes, spell_again}
 
 -- the words spell the numbers of these places
 abbrev pub SpellPlaces : ℕ → List (List ℕ) → List ℕ → Type 0
@@ -151,3 +155,165 @@ pub cell_number : (attributes points base number : ℕ) (words : List (List ℕ)
     → IsCellRow attributes points base number words cell → whole_of (slice_index_or words 0 []) ≡ Ok (pos number)
 cell_number attributes points base number words cell h =
     ap (λ (l : List (List ℕ)). whole_of (slice_index_or l 0 [])) h.words_are ∙ h.number_is
+
+-- ---- the cell that the code makes of the row's numbers
+
+-- the numbers of so many corners
+places_numbers : (base points n : ℕ) (words : List (List ℕ)) (places : List ℕ) → SpellPlaces base words places → length places ≡ n
+    → map number_read (zip (replicate n (Corner base points)) words) ≡ map (λ v. pos (base + v)) places
+places_numbers base points n words places e l =
+    spelled_numbers (Corner base points) whole_of (λ w. refl) n words (map (λ v. pos (base + v)) places) e (places_length base words places e ∙ l)
+
+-- What a cell's row holds where its tests pass, whether its corners are different or not: four places of points and the attributes.
+pub record Holds (attributes points base number : ℕ) (words : List (List ℕ)) (numbers : List ℤ) : Type 0 where
+  pub places : List ℕ
+  pub values : List ℤ
+  pub four : length places ≡ 4
+  pub inside : list_all (λ v. nat_lt v points) places ≡ true
+  pub corners : row_corners base words ≡ places
+  pub values_count : length values ≡ attributes
+  pub numbers_are : numbers ≡ pos number ∷ (map (λ v. pos (base + v)) places ++ values)
+  pub cell : are_different places ≡ true → (region : ℤ) × (region ≡ first_or_zero values) × IsCellRow attributes points base number words (record { corners = places; region = region })
+
+pub holds : (count place attributes points base number : ℕ) (words : List (List ℕ)) (numbers : List ℤ)
+    → first (row_tests count place (cell_words attributes points base number) words) ≡ None
+    → numbers ≡ map number_read (zip (cell_words attributes points base number) words) → Holds attributes points base number words numbers
+holds count place attributes points base number words numbers pass are =
+    let wanted = cell_words attributes points base number in
+    let tests = each_none (row_tests count place wanted words) pass in
+    go words are (row_takes count place wanted words tests).1
+  where
+    go : (words : List (List ℕ)) → numbers ≡ map number_read (zip (cell_words attributes points base number) words)
+        → AllZip Passes (cell_words attributes points base number) words → Holds attributes points base number words numbers
+    go [] are h = absurd h
+    go (word ∷ words) are h =
+        let c = append_zip Passes (replicate 4 (Corner base points)) (replicate attributes Real) words h.1 in
+        let corners = places_take base points 4 c.0 c.3 in
+        let attributes' = spell_takes Real millionths_of (λ w e. real_takes (millionths_of w) e) attributes c.1 c.4 in
+        let words_are : word ∷ words ≡ word ∷ (c.0 ++ c.1) = ap (λ l. word ∷ l) c.2 in
+        let own = number_takes number (whole_of word) h.0 in
+        let size : length (replicate 4 (Corner base points)) ≡ length c.0 = sym (places_length base c.0 corners.0 corners.1 ∙ corners.2) in
+        let parts = map_zip_append number_read (replicate 4 (Corner base points)) (replicate attributes Real) c.0 c.1 size in
+        let first_four = places_numbers base points 4 c.0 corners.0 corners.1 corners.2 in
+        let others = spelled_numbers Real millionths_of (λ w. refl) attributes c.1 attributes'.0 attributes'.1 attributes'.2 in
+        let all : map number_read (zip (cell_words attributes points base number) (word ∷ (c.0 ++ c.1)))
+        ≡ pos number ∷ (map (λ v. pos (base + v)) corners.0 ++ attributes'.0) =
+        cc (ap number_or_zero own, parts, first_four, others) in
+        record {
+          places = corners.0;
+          values = attributes'.0;
+          four = corners.2;
+          inside = corners.3;
+          corners = ap (row_corners base) words_are ∙ corners_are base word c.0 c.1 corners.0 corners.1 corners.2;
+          values_count = sym (spell_length millionths_of c.1 attributes'.0 attributes'.1) ∙ attributes'.2;
+          numbers_are = are ∙ (ap (λ l. map number_read (zip (cell_words attributes points base number) l)) words_are ∙ all);
+          cell = λ different. (
+            first_or_zero attributes'.0,
+            refl,
+            record {
+              number_word = word;
+              corner_words = c.0;
+              attribute_words = c.1;
+              attribute_numbers = attributes'.0;
+              words_are = words_are;
+              number_is = own;
+              corners_are = corners.1;
+              corners_fit = (corners.2, different, corners.3);
+              attributes_are = attributes'.1;
+              attributes_count = attributes'.2;
+              region_is = refl;
+            },
+          );
+        }
+
+-- ---- by the places of the numbers
+
+-- the four corners are numbers of points
+abbrev FourCorners : ℕ → ℕ → List ℤ → List ℕ → Type 0
+FourCorners points base numbers (a ∷ b ∷ c ∷ d ∷ []) =
+    (number_at numbers 1 ≡ pos (base + a)) × (number_at numbers 2 ≡ pos (base + b)) × (number_at numbers 3 ≡ pos (base + c)) × (number_at numbers 4 ≡ pos (base + d))
+    × (a < points) × (b < points) × (c < points) × (d < points)
+FourCorners points base numbers _ = ⊥
+
+four_corners : (points base number : ℕ) (places : List ℕ) (values : List ℤ) → length places ≡ 4 → list_all (λ v. nat_lt v points) places ≡ true
+    → FourCorners points base (pos number ∷ (map (λ v. pos (base + v)) places ++ values)) places
+four_corners points base number [] values l h = absurd (omega arith)
+four_corners points base number (a ∷ []) values l h = absurd (omega arith)
+four_corners points base number (a ∷ b ∷ []) values l h = absurd (omega arith)
+four_corners points base number (a ∷ b ∷ c ∷ []) values l h = absurd (omega arith)
+four_corners points base number (a ∷ b ∷ c ∷ d ∷ []) values l h =
+    let one = and_parts (nat_lt a points) (nat_lt b points && (nat_lt c points && (nat_lt d points && true))) h in
+    let two = and_parts (nat_lt b points) (nat_lt c points && (nat_lt d points && true)) one.1 in
+    let three = and_parts (nat_lt c points) (nat_lt d points && true) two.1 in
+    let four = and_parts (nat_lt d points) true three.1 in
+    (refl, refl, refl, refl, ltb-true a points one.0, ltb-true b points two.0, ltb-true c points three.0, ltb-true d points four.0)
+four_corners points base number (a ∷ b ∷ c ∷ d ∷ e ∷ places) values l h = absurd (omega arith)
+
+pub corners_hold : (attributes points base number : ℕ) (words : List (List ℕ)) (numbers : List ℤ) → points < 2 ^ 32
+    → Holds attributes points base number words numbers
+    → IsCorner base numbers 1 × IsCorner base numbers 2 × IsCorner base numbers 3 × IsCorner base numbers 4
+    × (corner_of base numbers 1 ∷ corner_of base numbers 2 ∷ corner_of base numbers 3 ∷ corner_of base numbers 4 ∷ [] ≡ row_corners base words)
+corners_hold attributes points base number words numbers few h =
+    let four = subst (λ l. FourCorners points base l h.places) (sym h.numbers_are)
+    (four_corners points base number h.places h.values h.four h.inside) in
+    go h.places (sym h.corners) four
+  where
+    corner : (k v : ℕ) → number_at numbers k ≡ pos (base + v) → v < points → IsCorner base numbers k × (corner_of base numbers k ≡ v)
+    corner k v e lt = let n : nat_abs (number_at numbers k) ≡ base + v = ap nat_abs e in ((omega arith, omega arith), omega arith)
+
+    go : (places : List ℕ) → places ≡ row_corners base words → FourCorners points base numbers places
+        → IsCorner base numbers 1 × IsCorner base numbers 2 × IsCorner base numbers 3 × IsCorner base numbers 4
+        × (corner_of base numbers 1 ∷ corner_of base numbers 2 ∷ corner_of base numbers 3 ∷ corner_of base numbers 4 ∷ [] ≡ row_corners base words)
+    go [] e f = absurd f
+    go (a ∷ []) e f = absurd f
+    go (a ∷ b ∷ []) e f = absurd f
+    go (a ∷ b ∷ c ∷ []) e f = absurd f
+    go (a ∷ b ∷ c ∷ d ∷ []) e f =
+        let one = corner 1 a f.0 f.4 in
+        let two = corner 2 b f.1 f.5 in
+        let three = corner 3 c f.2 f.6 in
+        let four = corner 4 d f.3 f.7 in
+        (one.0, two.0, three.0, four.0, cc (one.1, two.1, three.1, four.1, e))
+    go (a ∷ b ∷ c ∷ d ∷ x ∷ places) e f = absurd f
+
+-- how many numbers there are
+pub cell_count : (attributes points base number : ℕ) (words : List (List ℕ)) (numbers : List ℤ) → Holds attributes points base number words numbers
+    → length numbers ≡ 5 + attributes
+cell_count attributes points base number words numbers h =
+    omega (
+      arith,
+      ap length h.numbers_are,
+      length-append (map (λ v. pos (base + v)) h.places) h.values,
+      length-map h.places (λ v. pos (base + v)),
+      h.four,
+      h.values_count,
+    )
+
+-- the region
+region_is : (attributes base number : ℕ) (places : List ℕ) (values : List ℤ) → length places ≡ 4 → length values ≡ attributes
+    → region_of attributes (pos number ∷ (map (λ v. pos (base + v)) places ++ values)) ≡ first_or_zero values
+region_is attributes base number [] values l k = absurd (omega arith)
+region_is attributes base number (a ∷ []) values l k = absurd (omega arith)
+region_is attributes base number (a ∷ b ∷ []) values l k = absurd (omega arith)
+region_is attributes base number (a ∷ b ∷ c ∷ []) values l k = absurd (omega arith)
+region_is attributes base number (a ∷ b ∷ c ∷ d ∷ []) [] l k = rw (sym k) refl
+region_is attributes base number (a ∷ b ∷ c ∷ d ∷ []) (v ∷ values) l k =
+    let some : nat_lt 0 attributes ≡ true = lt-ltb 0 attributes (omega arith) in rw some refl
+region_is attributes base number (a ∷ b ∷ c ∷ d ∷ e ∷ places) values l k = absurd (omega arith)
+
+-- the row is that of the cell of these numbers, where its corners are different
+pub cell_read : (attributes points base number : ℕ) (words : List (List ℕ)) (numbers : List ℤ) → points < 2 ^ 32
+    → Holds attributes points base number words numbers → are_different (row_corners base words) ≡ true
+    → IsCellRow attributes points base number words (record {
+      corners = corner_of base numbers 1 ∷ corner_of base numbers 2 ∷ corner_of base numbers 3 ∷ corner_of base numbers 4 ∷ [];
+      region = region_of attributes numbers;
+    })
+cell_read attributes points base number words numbers few h different =
+    let c = h.cell (ap are_different (sym h.corners) ∙ different) in
+    let corners : h.places ≡ corner_of base numbers 1 ∷ corner_of base numbers 2 ∷ corner_of base numbers 3 ∷ corner_of base numbers 4 ∷ [] =
+    sym h.corners ∙ sym (corners_hold attributes points base number words numbers few h).4 in
+    let region : c.0 ≡ region_of attributes numbers =
+    c.1 ∙ sym (ap (region_of attributes) h.numbers_are ∙ region_is attributes base number h.places h.values h.four h.values_count) in
+    subst (λ (q : RawCell). IsCellRow attributes points base number words q)
+    (same_cell h.places (corner_of base numbers 1 ∷ corner_of base numbers 2 ∷ corner_of base numbers 3 ∷ corner_of base numbers 4 ∷ []) c.0
+    (region_of attributes numbers) corners region) c.2

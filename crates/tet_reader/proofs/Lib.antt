@@ -1,4 +1,5 @@
 pub mod CellRows
+pub mod EleReading
 pub mod Faces
 pub mod HeaderTests
 pub mod HeaderWords
@@ -7,6 +8,7 @@ pub mod LeastRepeat
 pub mod Lists
 pub mod Misfits
 pub mod Placed
+pub mod NodeReading
 pub mod PointRows
 pub mod Repeats
 pub mod RowLists

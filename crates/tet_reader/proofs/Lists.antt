@@ -25,7 +25,7 @@ use Rattle.tet_reader.proofs.RowLists.{one_items, first_number_fits, first_numbe
 -- ---- one list
 
 -- with no rows the tests take 0
-first_of_none : (rows : List Row) → length rows ≡ 0 → first_number rows ≡ 0
+pub first_of_none : (rows : List Row) → length rows ≡ 0 → first_number rows ≡ 0
 first_of_none [] e = refl
 first_of_none (row ∷ rows) e = absurd (omega arith)
 
@@ -87,10 +87,10 @@ one_cell_list rows points base cells others h i =
 -- ---- no fault
 
 -- the tests of a point's row, by its place
-abbrev point_tests : ℕ → ℕ → ℕ → ℕ → ℕ → List (List ℕ) → List (Option MeshWhat)
+abbrev pub point_tests : ℕ → ℕ → ℕ → ℕ → ℕ → List (List ℕ) → List (Option MeshWhat)
 point_tests count attributes markers base place words = row_tests count place (point_words attributes markers (base + place)) words
 
-point_kind : (count attributes markers base : ℕ)
+pub point_kind : (count attributes markers base : ℕ)
     → IsKind count base (point_tests count attributes markers base) (IsPointRow attributes markers)
 point_kind count attributes markers base =
     let wanted : ℕ → List Word = λ place. point_words attributes markers (base + place) in
@@ -163,11 +163,11 @@ node_again last rows base points h =
 abbrev different_test : ℕ → List (List ℕ) → Option MeshWhat
 different_test base words = unless (are_different (row_corners base words)) CornerTwice
 
-abbrev cell_tests : ℕ → ℕ → ℕ → ℕ → ℕ → ℕ → List (List ℕ) → List (Option MeshWhat)
+abbrev pub cell_tests : ℕ → ℕ → ℕ → ℕ → ℕ → ℕ → List (List ℕ) → List (Option MeshWhat)
 cell_tests count attributes points base own place words =
     row_tests count place (cell_words attributes points base (own + place)) words ++ different_test base words ∷ []
 
-cell_kind : (count attributes points base own : ℕ)
+pub cell_kind : (count attributes points base own : ℕ)
     → IsKind count own (cell_tests count attributes points base own) (IsCellRow attributes points base)
 cell_kind count attributes points base own =
     let wanted : ℕ → List Word = λ place. cell_words attributes points base (own + place) in

@@ -20,7 +20,7 @@ use Rattle.tet_reader.proofs.Tests.{each_none, row_takes, zip_length}
 use Rattle.tet_reader.proofs.Spelling.{three_parts, same_parts, spell_length, one_spelling, spell_takes, spell_again}
 
 -- points are the same by their fields
-same_point : (x y z mark x' y' z' mark' : ℤ) → x ≡ x' → y ≡ y' → z ≡ z' → mark ≡ mark'
+pub same_point : (x y z mark x' y' z' mark' : ℤ) → x ≡ x' → y ≡ y' → z ≡ z' → mark ≡ mark'
     → ◌≡◌ {A = Point} (record { x = x; y = y; z = z; mark = mark }) (record { x = x'; y = y'; z = z'; mark = mark' })
 same_point x y z mark x' y' z' mark' p q r s =
     let one : ◌≡◌ {A = Point} (record { x = x; y = y; z = z; mark = mark }) (record { x = x'; y = y; z = z; mark = mark }) =
@@ -178,5 +178,13 @@ point_count count place attributes markers number words numbers pass are =
     let tests = each_none (row_tests count place wanted words) pass in
     let same = zip_length Passes wanted words (row_takes count place wanted words tests).1 in
     let size = length-append (replicate attributes Real) (replicate markers Marker) in
-    omega (arith, ap length are, length-map (zip wanted words) number_read, zip_size wanted words same, same, size,
-      length-replicate attributes Real, length-replicate markers Marker)
+    omega (
+      arith,
+      ap length are,
+      length-map (zip wanted words) number_read,
+      zip_size wanted words same,
+      same,
+      size,
+      length-replicate attributes Real,
+      length-replicate markers Marker,
+    )

@@ -1,8 +1,8 @@
 -- The rows of a file one after the other as they are read, for both kinds of rows.
 use Rattle.std.proofs.lemmas.Bool.Decides.{nat_tests}
-use Rattle.std.proofs.Common.{add-zero, false}
-use Rattle.std.proofs.Common.{◌≡◌, ℕ, zero, suc, ◌+◌, ◌<◌, ◌≤◌, nat_le, Option, Some, None, List, [], ◌∷◌, ◌++◌, map, take, drop, length, refl, sym, ap, subst, ◌∙◌, arith}
-use Rattle.std.specs.Prelude.{ℤ, pos, nat_abs}
+use Rattle.std.proofs.Common.{add-zero, zero-add, false}
+use Rattle.std.proofs.Common.{◌≡◌, ℕ, zero, suc, ◌+◌, ◌<◌, ◌≤◌, nat_le, Option, Some, None, List, [], ◌∷◌, ◌++◌, take, length, refl, sym, ap, subst, ◌∙◌, arith}
+use Rattle.std.specs.Prelude.{ℤ, nat_abs}
 use Rattle.std.proofs.lemmas.List.{take_all}
 use Rattle.liszt_base.specs.declared.answers.MeshFault.{MeshFault}
 use Rattle.liszt_base.specs.declared.answers.MeshFile.{MeshFile}
@@ -10,7 +10,7 @@ use Rattle.liszt_base.specs.declared.answers.MeshWhat.{MeshWhat}
 use Rattle.liszt_base.specs.declared.answers.MeshWhat.TheVariants.{Missing}
 use Rattle.text_scan.specs.Rows.{Row}
 use Rattle.text_scan.specs.Tables.{row_at}
-use Rattle.tet_reader.specs.Tests.{first, unless}
+use Rattle.tet_reader.specs.Tests.{first}
 use Rattle.tet_reader.specs.Points.{AreNumbered}
 use Rattle.tet_reader.specs.Faults.{fault_at, line_fault, file_tests}
 use Rattle.tet_reader.proofs.Tests.{FindNone, each_none, first_none}
@@ -60,7 +60,8 @@ pub row_taken : {A : Type 0} (tests : Tests) (IsRowOf : ℕ → List (List ℕ) 
     → place < length rows → AreTaken tests IsRowOf number rows items place → first (tests place (row_at rows place).words) ≡ None
     → IsRowOf (number + place) (row_at rows place).words item → items' ≡ items ++ item ∷ [] → AreTaken tests IsRowOf number rows items' (place + 1)
 row_taken tests IsRowOf number rows items items' place item lt h pass is same = record {
-  pass = pass_more tests 0 rows place lt h.pass (each_none (tests place (row_at rows place).words) pass);
+  pass = pass_more tests 0 rows place lt h.pass
+      (subst (λ k. FindNone (tests k (row_at rows place).words)) (sym (zero-add place)) (each_none (tests place (row_at rows place).words) pass));
   each = subst (λ l. AreNumbered IsRowOf number (take (place + 1) rows) l) (sym same) (numbered_more IsRowOf number rows items place item lt h.each is);
 }
 
@@ -96,7 +97,8 @@ pub row_fault : (file : MeshFile) (count : ℤ) (header_tests : List (Option Mes
     → first (file_tests file count header_tests tests last header rows) ≡ Some (fault_at file count (row_at rows place).line what)
 row_fault file count header_tests tests last header rows place what head lt h wrong =
     let none = line_again file count header.line header_tests head in
-    rw none (found_among file count tests 0 rows place what (line_fault file count last (last_tests count rows) ∷ []) lt h wrong)
+    rw none (found_among file count tests 0 rows place what (line_fault file count last (last_tests count rows) ∷ []) lt h
+    (ap (λ k. first (tests k (row_at rows place).words)) (zero-add place) ∙ wrong))
 
 -- that a row is missing is the file's fault, where the header and the rows pass
 pub missing_fault : (file : MeshFile) (count : ℤ) (header_tests : List (Option MeshWhat)) (tests : Tests) (last : ℕ) (header : Row) (rows : List Row)

@@ -1,4 +1,5 @@
 -- The first fault of the whole mesh is told at the line of the first cell that no mesh may have.
+use Rattle.std.proofs.Common.{◌<◌}
 use Rattle.std.proofs.Common.{◌≡◌, ℕ, suc, ◌+◌, Bool, true, false, Option, Some, None, List, [], ◌∷◌, ◌++◌, map, length, get_or}
 use Rattle.std.proofs.Common.{refl, sym, ap, ◌∙◌, arith}
 use Rattle.std.specs.Prelude.{pos}
@@ -67,3 +68,27 @@ first_whole_fault base rows =
     ∙ ap (λ o. first (o ∷ first (map (cell_fault FaceShared) (zip third rows)) ∷ [])) one
     ∙ ap (λ o. first (option_map (λ place. fault_at Ele (pos 0) (line place) CellTwice) (first_true 0 twice) ∷ o ∷ [])) two
     ∙ map_first (misfit_fault rows) (misfit CellTwice) (misfit FaceShared) (first_true 0 twice) (first_true 0 third)
+
+-- a misfit is one of the cells
+place_of : Option Misfit → ℕ
+place_of None = 0
+place_of (Some m) = m.place
+
+true_inside : (start place : ℕ) (tests : List Bool) → first_true start tests ≡ Some place → place < start + length tests
+true_inside start place [] e = cc
+true_inside start place (true ∷ tests) e = let same : start ≡ place = cc in omega arith
+true_inside start place (false ∷ tests) e = let more = true_inside (start + 1) place tests e in omega (arith, more)
+
+pub misfit_inside : (cells : List (List ℕ)) (m : Misfit) → first_misfit cells ≡ Some m → m.place < length cells
+unfolding place_of
+misfit_inside cells m e =
+    let twice : List Bool = along comes_again [] cells in
+    let third : List Bool = along is_third [] cells in
+    go (first_true 0 twice) (first_true 0 third) (λ p h. omega (arith, true_inside 0 p twice h, along_length comes_again [] cells))
+    (λ p h. omega (arith, true_inside 0 p third h, along_length is_third [] cells)) e
+  where
+    go : (x y : Option ℕ) → ((p : ℕ) → x ≡ Some p → p < length cells) → ((p : ℕ) → y ≡ Some p → p < length cells)
+        → first (option_map (misfit CellTwice) x ∷ option_map (misfit FaceShared) y ∷ []) ≡ Some m → m.place < length cells
+    go (Some p) y f g e = let same : p ≡ m.place = ap (λ (o : Option Misfit). place_of o) e in f m.place (ap Some same)
+    go None (Some p) f g e = let same : p ≡ m.place = ap (λ (o : Option Misfit). place_of o) e in g m.place (ap Some same)
+    go None None f g e = cc

@@ -43,14 +43,14 @@ faults_again what (true ∷ tests) (row ∷ rows) h = cc
 faults_again what (false ∷ tests) (row ∷ rows) h = (refl, faults_again what tests rows h)
 
 -- the corners that the tests take from rows, and those of cells
-abbrev CornersOf : ℕ → List Row → List (List ℕ)
+abbrev pub CornersOf : ℕ → List Row → List (List ℕ)
 CornersOf base rows = map (λ row. row_corners base row.words) rows
 
-abbrev CellCorners : List RawCell → List (List ℕ)
+abbrev pub CellCorners : List RawCell → List (List ℕ)
 CellCorners cells = map (λ cell. cell.corners) cells
 
 -- the tests of the whole mesh find nothing where the corners of its rows are whole
-whole_takes : (base : ℕ) (rows : List Row) → FindNone (whole_tests base rows) → FitTogether (CornersOf base rows)
+pub whole_takes : (base : ℕ) (rows : List Row) → FindNone (whole_tests base rows) → FitTogether (CornersOf base rows)
 whole_takes base rows h =
     let cells : List (List ℕ) = CornersOf base rows in
     let twice : List Bool = along comes_again [] cells in
@@ -81,7 +81,7 @@ rows_corners attributes points base start (row ∷ rows) (cell ∷ cells) h =
     let more = rows_corners attributes points base (start + 1) rows cells h.1 in
     (cc (row_corners_are attributes points base start row.words cell h.0, more.0), (h.0.corners_fit, more.1))
 
-cells_corners : (rows : List Row) (points : List Point) (base : ℕ) (cells : List RawCell) → Cells rows points base cells
+pub cells_corners : (rows : List Row) (points : List Point) (base : ℕ) (cells : List RawCell) → Cells rows points base cells
     → (CornersOf base (drop 1 rows) ≡ CellCorners cells) × AllByRecursion (IsCell (length points)) (CellCorners cells)
 cells_corners rows points base cells h =
     let r = rows_corners h.attributes (length points) base h.first h.others cells h.each in
@@ -100,7 +100,7 @@ abbrev faults : TextRows → TextRows → ℕ → ℕ → List (Option MeshFault
 faults node ele points base = node_fault node ∷ ele_fault points base ele ∷ whole_tests base (drop 1 ele.rows)
 
 -- over points that the node file spells, the tests are those over their count and base
-same_faults : (node ele : TextRows) (base : ℕ) (points : List Point) → Points node.rows base points
+pub same_faults : (node ele : TextRows) (base : ℕ) (points : List Point) → Points node.rows base points
     → mesh_fault node ele ≡ first (faults node ele (length points) base)
 same_faults node ele base points h =
     let count = points_count node.rows base points h in

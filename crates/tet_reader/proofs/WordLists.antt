@@ -116,3 +116,9 @@ reading_fits (Number number) word value e = whole_fits word value e
 reading_fits Real word value e = millionths_fits word value e
 reading_fits Marker word value e = whole_fits word value e
 reading_fits (Corner base points) word value e = whole_fits word value e
+
+-- a fault in front is the first
+pub first_before : {A : Type 0} (xs ys : List (Option A)) (x : A) → first xs ≡ Some x → first (xs ++ ys) ≡ Some x
+first_before [] ys x e = cc
+first_before (None ∷ xs) ys x e = first_before xs ys x e
+first_before (Some y ∷ xs) ys x e = e

@@ -11,7 +11,7 @@ use Rattle.text_scan.specs.Rows.{Row, TextRows, text_rows}
 use Rattle.text_scan.specs.Tables.{row_at}
 use Rattle.tet_reader.specs.Tests.{first}
 use Rattle.tet_reader.specs.Headers.{IsNodeHeader, IsEleHeader}
-use Rattle.tet_reader.specs.Points.{AreNumbered, Points, Cells}
+use Rattle.tet_reader.specs.Points.{Points, Cells}
 use Rattle.tet_reader.specs.declared.headers.NodeHeader.{NodeHeader}
 use Rattle.tet_reader.specs.declared.headers.EleHeader.{EleHeader}
 

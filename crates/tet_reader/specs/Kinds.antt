@@ -1,5 +1,5 @@
 -- What a row should have, word by word, and what the code reads of a row. This project's own.
-use Rattle.std.specs.Prelude.{◌≡◌, ℕ, None, Some, List, map, ℤ, pos, Result, Ok, Err, if◌then◌else◌, ◌+◌, nat_lt}
+use Rattle.std.specs.Prelude.{◌≡◌, ℕ, None, Some, List, map, ℤ, pos, Result, Ok, Err, if◌then◌else◌, ◌+◌, nat_lt, ◌-◌, ◌≤◌, ◌<◌, ◌^◌, nat_abs}
 use Rattle.std.specs.List.{zip}
 use Rattle.liszt_base.specs.declared.answers.MeshWhat.{MeshWhat}
 use Rattle.text_scan.specs.Numbers.{whole_of, millionths_of}
@@ -52,3 +52,13 @@ ReadsWords wanted words numbers (Err what) = first (map (λ w. word_test w.0 w.1
 -- the mark among the numbers of a point's row, 0 where there is none
 abbrev pub mark_of : ℕ → ℕ → List ℤ → ℤ
 mark_of attributes markers numbers = if nat_lt 0 markers then number_at numbers (4 + attributes) else pos 0
+
+-- a corner among the numbers of a cell's row, as the place of its point, and the region, 0 where there is none
+abbrev pub IsCorner : ℕ → List ℤ → ℕ → Type 0
+IsCorner base numbers place = (base ≤ nat_abs (number_at numbers place)) × (nat_abs (number_at numbers place) < base + 2 ^ 32)
+
+abbrev pub corner_of : ℕ → List ℤ → ℕ → ℕ
+corner_of base numbers place = nat_abs (number_at numbers place) - base
+
+abbrev pub region_of : ℕ → List ℤ → ℤ
+region_of attributes numbers = if nat_lt 0 attributes then number_at numbers 5 else pos 0

@@ -1,4 +1,4 @@
-ghost use Rattle.std.specs.Prelude.{◌≡◌, ◌<◌, ◌≤◌, ◌^◌, ◌&&◌, nat_abs, nat_le, true, [], length, map, drop};
+ghost use Rattle.std.specs.Prelude.{◌≡◌, ◌<◌, ◌≤◌, ◌^◌, ◌&&◌, nat_abs, nat_le, pos, true, [], length, map, drop};
 ghost use Rattle.std.specs.List.{list_all};
 ghost use Rattle.std.specs.Str.Parse.{signed_digits_value};
 ghost use Rattle.text_scan.specs.Numbers.{is_whole};
@@ -38,6 +38,13 @@ pub(crate) fn fault_at(file: MeshFile, count: i64, line: u32, what: MeshWhat) ->
         what,
         number,
     }
+}
+
+/// The same, of a file whose header names this count.
+pub(crate) fn fault_within(file: MeshFile, count: u32, line: u32, what: MeshWhat) -> MeshFault
+    ensures { result ≡ FaultAt file (pos count) line what }
+{
+    fault_at(file, i64::from(count), line, what)
 }
 
 /// The header of a node file.

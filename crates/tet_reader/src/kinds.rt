@@ -71,7 +71,13 @@ impl RowKind {
     }
 
     /// Reads the numbers of the words of a row.
-    fn read_words(self, rows: &Rows, row: usize, number: u32, numbers: &mut NumberRow) -> Result<(), MeshWhat>
+    fn read_words(
+        self,
+        rows: &Rows,
+        row: usize,
+        number: u32,
+        numbers: &mut NumberRow,
+    ) -> Result<(), MeshWhat>
         requires row { row < length rows.now.rows }
         requires words { length (row_at rows.now.rows row).words ≡ length (wanted_words self 0) }
         requires short { length (wanted_words self 0) ≤ 69 }

@@ -7,7 +7,7 @@ ghost use Rattle.tet_reader.specs.Headers.{number_at};
 ghost use Rattle.tet_reader.specs.Kinds.{mark_of as MarkOf};
 ghost use Rattle.tet_reader.specs.Answers.{HeadsNode, Reads, ReadsItem, ReadsRows, SpellTable};
 
-use crate::headers::{NodeHeader, fault_at, first_number, node_header};
+use crate::headers::{NodeHeader, fault_within, first_number, node_header};
 use crate::kinds::RowKind;
 use crate::number_row::NumberRow;
 use liszt_base::{MeshFault, MeshFile, MeshWhat, Point, PointList, PointTable, Refused};
@@ -26,14 +26,24 @@ pub fn read_points(alloc: Global, rows: &Rows) -> Result<PointTable, Refused<Mes
     let base = first_number(rows);
     let list = point_rows(alloc, rows, header, base)?;
     if list.as_slice().len() < header.points as usize {
-        let fault = fault_at(MeshFile::Node, i64::from(header.points), rows.last_line(), MeshWhat::Missing);
+        let fault = fault_within(
+            MeshFile::Node,
+            header.points,
+            rows.last_line(),
+            MeshWhat::Missing,
+        );
         return Err(Refused::Fault(fault));
     }
     Ok(PointTable { list, base })
 }
 
 /// The points of the rows behind the header.
-fn point_rows(alloc: Global, rows: &Rows, header: NodeHeader, first: u32) -> Result<PointList, Refused<MeshFault>>
+fn point_rows(
+    alloc: Global,
+    rows: &Rows,
+    header: NodeHeader,
+    first: u32,
+) -> Result<PointList, Refused<MeshFault>>
     requires heads { HeadsNode rows.now.rows header }
     requires first { first ≡ FirstNumber (drop 1 rows.now.rows) }
     ensures { ReadsRows (AreNumbered (IsPointRow header.attributes header.markers) first (drop 1 rows.now.rows)) header.points rows.now.rows (node_fault rows.now) result }
@@ -45,7 +55,7 @@ fn point_rows(alloc: Global, rows: &Rows, header: NodeHeader, first: u32) -> Res
             Ok(point) => points.push(point)?,
             Err(what) => {
                 let line = rows.line(place + 1);
-                let fault = fault_at(MeshFile::Node, i64::from(header.points), line, what);
+                let fault = fault_within(MeshFile::Node, header.points, line, what);
                 return Err(Refused::Fault(fault));
             }
         }
@@ -54,7 +64,13 @@ fn point_rows(alloc: Global, rows: &Rows, header: NodeHeader, first: u32) -> Res
 }
 
 /// The point of the row behind so many and the header.
-fn point_row(rows: &Rows, place: usize, header: NodeHeader, first: u32, numbers: &mut NumberRow) -> Result<Point, MeshWhat>
+fn point_row(
+    rows: &Rows,
+    place: usize,
+    header: NodeHeader,
+    first: u32,
+    numbers: &mut NumberRow,
+) -> Result<Point, MeshWhat>
     requires heads { HeadsNode rows.now.rows header }
     requires place { place + 1 < length rows.now.rows }
     requires first { first ≤ 1 }

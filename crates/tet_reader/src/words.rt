@@ -24,7 +24,11 @@ pub(crate) fn read_word(wanted: Word, text: &[u8]) -> Result<i64, MeshWhat>
     match wanted {
         Word::Number(number) => {
             let value = read_whole(text)?;
-            if value == i64::from(number) { Ok(value) } else { Err(MeshWhat::NumberOrder) }
+            if value == i64::from(number) {
+                Ok(value)
+            } else {
+                Err(MeshWhat::NumberOrder)
+            }
         }
         Word::Real => match millionths(text) {
             Ok(value) => Ok(value),
@@ -34,7 +38,11 @@ pub(crate) fn read_word(wanted: Word, text: &[u8]) -> Result<i64, MeshWhat>
         Word::Marker => read_whole(text),
         Word::Corner(base, points) => {
             let value = read_whole(text)?;
-            if is_corner(base, points, value) { Ok(value) } else { Err(MeshWhat::CornerRange) }
+            if is_corner(base, points, value) {
+                Ok(value)
+            } else {
+                Err(MeshWhat::CornerRange)
+            }
         }
     }
 }
