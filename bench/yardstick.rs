@@ -36,7 +36,10 @@ impl<'a> Rows<'a> {
             let line = line.strip_suffix(b"\r").unwrap_or(line);
             let text = line.split(|&b| b == b'#').next().unwrap_or(line);
             words.clear();
-            words.extend(text.split(|&b| b == b' ' || b == b'\t').filter(|word| !word.is_empty()));
+            words.extend(
+                text.split(|&b| b == b' ' || b == b'\t')
+                    .filter(|word| !word.is_empty()),
+            );
             if !words.is_empty() {
                 return Some(self.line);
             }
@@ -58,7 +61,9 @@ fn whole(word: &[u8]) -> Option<i64> {
     if digits.is_empty() || digits.len() > 18 || !digits.iter().all(u8::is_ascii_digit) {
         return None;
     }
-    let value = digits.iter().fold(0, |value, &b| value * 10 + i64::from(b - b'0'));
+    let value = digits
+        .iter()
+        .fold(0, |value, &b| value * 10 + i64::from(b - b'0'));
     Some(if minus { -value } else { value })
 }
 
@@ -70,7 +75,10 @@ fn real(word: &[u8]) -> Checked<i64> {
     let (minus, rest) = without_sign(word);
     let mark = rest.iter().position(|&b| b == b'e' || b == b'E');
     let mantissa = &rest[..mark.unwrap_or(rest.len())];
-    let point = mantissa.iter().position(|&b| b == b'.').unwrap_or(mantissa.len());
+    let point = mantissa
+        .iter()
+        .position(|&b| b == b'.')
+        .unwrap_or(mantissa.len());
     let fraction = mantissa.get(point + 1..).unwrap_or(&[]);
     let digits = || mantissa[..point].iter().chain(fraction);
     if digits().next().is_none() || !digits().all(u8::is_ascii_digit) {
@@ -82,7 +90,9 @@ fn real(word: &[u8]) -> Checked<i64> {
         if size.is_empty() || !size.iter().all(u8::is_ascii_digit) {
             return Err("BadNumber");
         }
-        let size = size.iter().fold(0, |size: i64, &b| (size * 10 + i64::from(b - b'0')).min(1000));
+        let size = size.iter().fold(0, |size: i64, &b| {
+            (size * 10 + i64::from(b - b'0')).min(1000)
+        });
         exponent = if down { -size } else { size };
     }
     // the places that are kept: those in front of the millionths' point
@@ -115,7 +125,11 @@ fn header<const N: usize>(words: &[&[u8]], mut numbers: [i64; N]) -> Checked<[i6
     for (number, word) in numbers.iter_mut().zip(words) {
         *number = whole(word).ok_or("Header")?;
     }
-    if numbers[0] < 0 { Err("Header") } else { Ok(numbers) }
+    if numbers[0] < 0 {
+        Err("Header")
+    } else {
+        Ok(numbers)
+    }
 }
 
 fn row_fits(words: &[&[u8]], wanted: usize, place: usize, count: usize) -> Checked<()> {
@@ -136,7 +150,11 @@ fn row_number(word: &[u8], place: usize, first: &mut i64) -> Checked<()> {
     if place == 0 {
         *first = i64::from(number == 1);
     }
-    if number == *first + place as i64 { Ok(()) } else { Err("NumberOrder") }
+    if number == *first + place as i64 {
+        Ok(())
+    } else {
+        Err("NumberOrder")
+    }
 }
 
 struct Point {
@@ -153,11 +171,20 @@ fn point(words: &[&[u8]], attributes: usize, markers: usize) -> Checked<Point> {
     if markers == 1 {
         mark = whole(words[4 + attributes]).ok_or("BadNumber")?;
     }
-    Ok(Point { _at: at, _mark: mark })
+    Ok(Point {
+        _at: at,
+        _mark: mark,
+    })
 }
 
 fn points(bytes: &[u8]) -> Result<(Vec<Point>, i64), Fault> {
-    let (mut rows, mut words) = (Rows { rest: bytes, line: 0 }, Vec::new());
+    let (mut rows, mut words) = (
+        Rows {
+            rest: bytes,
+            line: 0,
+        },
+        Vec::new(),
+    );
     let at = |line| move |what| Fault::Mesh("node", what, line);
     let Some(line) = rows.next(&mut words) else {
         return Err(at(rows.line)("Header"));
@@ -211,11 +238,21 @@ fn cell(words: &[&[u8]], points: usize, base: i64, line: usize) -> Checked<Cell>
     if a == b || a == c || a == d || b == c || b == d || c == d {
         return Err("CornerTwice");
     }
-    Ok(Cell { corners, _region: region, line: line as u32 })
+    Ok(Cell {
+        corners,
+        _region: region,
+        line: line as u32,
+    })
 }
 
 fn cells(bytes: &[u8], points: usize, base: i64) -> Result<Vec<Cell>, Fault> {
-    let (mut rows, mut words) = (Rows { rest: bytes, line: 0 }, Vec::new());
+    let (mut rows, mut words) = (
+        Rows {
+            rest: bytes,
+            line: 0,
+        },
+        Vec::new(),
+    );
     let at = |line| move |what| Fault::Mesh("ele", what, line);
     let Some(line) = rows.next(&mut words) else {
         return Err(at(rows.line)("Header"));
@@ -247,7 +284,10 @@ fn cells(bytes: &[u8], points: usize, base: i64) -> Result<Vec<Cell>, Fault> {
 fn least_behind<const N: usize>(keys: &mut [([u32; N], u32)], others: usize) -> Option<u32> {
     keys.sort_unstable();
     let behind = keys.iter().zip(keys.get(others..).unwrap_or(&[]));
-    behind.filter(|(early, late)| early.0 == late.0).map(|(_, late)| late.1).min()
+    behind
+        .filter(|(early, late)| early.0 == late.0)
+        .map(|(_, late)| late.1)
+        .min()
 }
 
 fn fit_together(cells: &[Cell]) -> Result<(), Fault> {
@@ -263,7 +303,12 @@ fn fit_together(cells: &[Cell]) -> Result<(), Fault> {
     }
     let faces = |(key, place): &([u32; 4], u32)| {
         let ([a, b, c, d], place) = (*key, *place);
-        [([b, c, d], place), ([a, c, d], place), ([a, b, d], place), ([a, b, c], place)]
+        [
+            ([b, c, d], place),
+            ([a, c, d], place),
+            ([a, b, d], place),
+            ([a, b, c], place),
+        ]
     };
     let mut keys: Vec<_> = keys.iter().flat_map(faces).collect();
     match least_behind(&mut keys, 2) {
