@@ -1,5 +1,7 @@
+pub mod Chosen
 pub mod Cycles
 pub mod FaceEdges
+pub mod Listed
 pub mod Ranked
 pub mod Rising
 pub mod Sets

@@ -1,0 +1,24 @@
+-- Choices of members of a list, and tables of them. Contracts of private functions cite these. This project's own.
+use Rattle.std.specs.Prelude.{◌≡◌, ◌↔◌, ℕ, zero, suc, List, [], ◌∷◌, ◌++◌, map}
+use Rattle.std.specs.Cmp.Lexicographic.{slice_cmp}
+use Rattle.std.specs.List.{AllPairs, Contains}
+use Rattle.std.specs.List.Sorted.{IsNonDecreasing, IsPermutation}
+use Rattle.std.specs.Ordering.{nat_cmp}
+use Rattle.std.specs.declared.cmp.Ordering.TheVariants.{Less}
+use Rattle.liszt_base.specs.declared.mesh.RawCell.{RawCell}
+
+-- all lists of so many members of a list, each in the order of the list
+abbrev pub choices : ℕ → List ℕ → List (List ℕ)
+choices zero xs = [] ∷ []
+choices (suc size) [] = []
+choices (suc size) (x ∷ xs) = map (λ set. x ∷ set) (choices size xs) ++ choices (suc size) xs
+
+-- the same sets, each once, in lexicographic order
+pub record IsTableOf (sets table : List (List ℕ)) : Type 0 where
+  pub ordered : AllPairs (λ x y. slice_cmp nat_cmp x y ≡ Less) table
+  pub members : (set : List ℕ) → Contains table set ↔ Contains sets set
+
+-- the corners of a cell in ascending order
+pub record IsAscending (cell : RawCell) (row : List ℕ) : Type 0 where
+  pub ascends : IsNonDecreasing row
+  pub permutes : IsPermutation cell.corners row

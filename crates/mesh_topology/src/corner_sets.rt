@@ -1,0 +1,36 @@
+//! The pairs and triples of corners, and tables of them.
+
+ghost use Rattle.std.specs.Prelude.{◌≡◌};
+ghost use Rattle.mesh_topology.specs.Choices.{choices, IsTableOf};
+
+/// The six pairs of four corners, each in their order.
+pub fn pairs_of_four(corners: [u32; 4]) -> [[u32; 2]; 6]
+    ensures { result ≡ choices 2 corners }
+{
+    let [a, b, c, d] = corners;
+    [[a, b], [a, c], [a, d], [b, c], [b, d], [c, d]]
+}
+
+/// The three pairs of three corners, each in their order.
+pub fn pairs_of_three(corners: [u32; 3]) -> [[u32; 2]; 3]
+    ensures { result ≡ choices 2 corners }
+{
+    let [a, b, c] = corners;
+    [[a, b], [a, c], [b, c]]
+}
+
+/// The four triples of four corners, each in their order.
+pub fn triples_of_four(corners: [u32; 4]) -> [[u32; 3]; 4]
+    ensures { result ≡ choices 3 corners }
+{
+    let [a, b, c, d] = corners;
+    [[a, b, c], [a, b, d], [a, c, d], [b, c, d]]
+}
+
+/// Sorts sets of corners, and leaves each of them once.
+pub fn make_table<const N: usize>(sets: &mut Vec<[u32; N]>)
+    ensures { IsTableOf sets.old.items sets.new.items }
+{
+    sets.sort_unstable();
+    sets.dedup();
+}
