@@ -2,6 +2,7 @@ pub mod Chosen
 pub mod Cycles
 pub mod FaceEdges
 pub mod Listed
+pub mod Near
 pub mod Ranked
 pub mod Rising
 pub mod Sets

@@ -1,5 +1,5 @@
 -- Choices of members of a list, and tables of them. Contracts of private functions cite these. This project's own.
-use Rattle.std.specs.Prelude.{◌≡◌, ◌↔◌, ℕ, zero, suc, List, [], ◌∷◌, ◌++◌, map}
+use Rattle.std.specs.Prelude.{◌≡◌, ◌↔◌, ℕ, zero, suc, List, [], ◌∷◌, ◌++◌, ◌<◌, map, length, slice_index_or}
 use Rattle.std.specs.Cmp.Lexicographic.{slice_cmp}
 use Rattle.std.specs.List.{AllPairs, Contains}
 use Rattle.std.specs.List.Sorted.{IsNonDecreasing, IsPermutation}
@@ -22,3 +22,8 @@ pub record IsTableOf (sets table : List (List ℕ)) : Type 0 where
 pub record IsAscending (cell : RawCell) (row : List ℕ) : Type 0 where
   pub ascends : IsNonDecreasing row
   pub permutes : IsPermutation cell.corners row
+
+-- the ids below the length of a table at which these sets stand in it
+pub record AreRanks (table sets : List (List ℕ)) (ids : List ℕ) : Type 0 where
+  pub below : (id : ℕ) → Contains ids id → id < length table
+  pub are : map (λ id. slice_index_or table id []) ids ≡ sets
