@@ -1,4 +1,5 @@
 pub mod Corners
+pub mod Cuts
 pub mod MeshLists
 pub mod Numbers
 pub mod Pieces

@@ -7,6 +7,7 @@ use crate::elements::{Elem, Kind, Op, SetName};
 use crate::gate::OpenGate;
 use crate::mesh::{CellList, Point, PointList, PointTable, RawCell, RawMesh};
 use crate::plain_list::ByteList;
+use crate::plain_lists::PlainLists;
 use crate::word_list::WordList;
 
 fn needs_shared<T: Send + Sync>() {}
@@ -35,5 +36,6 @@ fn types_are_shared() {
     needs_shared::<PointTable>();
     needs_shared::<RawMesh>();
     needs_shared::<ByteList>();
+    needs_shared::<PlainLists<u32>>();
     needs_shared::<WordList>();
 }
