@@ -1,5 +1,5 @@
 -- The choices of so many members of a rising list: which there are, and their order.
-use Rattle.std.proofs.Common.{◌≡◌, ◌⊎◌, ℕ, zero, suc, ◌<◌, List, [], ◌∷◌, ◌++◌, map, length, refl, sym, ap, subst, inl, inr, arith}
+use Rattle.std.proofs.Common.{◌≡◌, ◌⊎◌, ℕ, zero, suc, ◌<◌, List, [], ◌∷◌, map, length, refl, ap, subst, inl, inr, arith}
 use Rattle.mesh_topology.specs.Choices.{choices}
 use Rattle.mesh_topology.proofs.Sets.{Member, member_left, member_right, member_parted, member_map, member_mapped}
 use Rattle.mesh_topology.proofs.Rising.{Pairs, pairs_append, pairs_map, Before, before_more, before_first}

@@ -1,6 +1,8 @@
 pub mod Chosen
 pub mod Cycles
 pub mod FaceEdges
+pub mod Found
+pub mod Kept
 pub mod Listed
 pub mod Near
 pub mod Ranked

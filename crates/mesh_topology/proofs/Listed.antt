@@ -1,12 +1,12 @@
 -- Lists that are one since they stand in one order and have the same members, and what a sort and `dedup` leave.
-use Rattle.std.proofs.Common.{◌≡◌, ◌⊎◌, ◌↔◌, ℕ, zero, suc, ◌<◌, List, [], ◌∷◌, ◌++◌, ◌+◌, length, take, get_or, pos, AllPairs, Contains, nat_cmp, nat_eq, Less, Equal, refl, sym, ap, subst, ◌∙◌, inl, inr, arith}
-use Rattle.std.specs.Cmp.{IsTotalOrder}
+use Rattle.std.proofs.Common.{◌≡◌, ◌⊎◌, ℕ, zero, suc, ◌<◌, List, [], ◌∷◌, ◌++◌, ◌+◌, length, take, get_or, pos, AllPairs, nat_cmp, nat_eq, Less, refl, sym, ap, subst, ◌∙◌, inl, inr, arith}
 use Rattle.std.specs.Cmp.Lexicographic.{slice_cmp, pointwise, nat_list_cmp_total, nat_list_eq_equiv, texts_ties, same_text}
-use Rattle.std.specs.List.{AllByRecursion, AllZip, dedup}
+use Rattle.std.specs.List.{AllZip, dedup}
 use Rattle.std.specs.List.Sorted.{IsNonDecreasing, IsPermutation, IsSorted, IsStrictlySortedBy}
 use Rattle.std.proofs.lemmas.List.{take_more}
 use Rattle.std.proofs.lemmas.List.Kept.{Contains-dedup, Contains-from_dedup, IsStrictlySortedBy-dedup}
 use Rattle.std.proofs.lemmas.List.Sorted.{Contains-permutation, IsPermutation-sym}
+use Rattle.liszt_base.specs.declared.mesh.Point.{Point}
 use Rattle.liszt_base.specs.declared.mesh.RawCell.{RawCell}
 use Rattle.mesh_topology.specs.Choices.{IsAscending, IsTableOf}
 use Rattle.mesh_topology.proofs.Sets.{Member, member_contained, contained_member}
@@ -90,9 +90,12 @@ zip_long R [] (w ∷ ys) all = absurd all
 zip_long R (z ∷ xs) [] all = absurd all
 zip_long R (z ∷ xs) (w ∷ ys) all = ap suc (zip_long R xs ys all.1)
 
--- what stands for a cell past the end
+-- what stands for a cell and a point past the end
 abbrev pub no_cell : RawCell
 no_cell = record { corners = []; region = pos 0 }
+
+abbrev pub no_point : Point
+no_point = record { x = pos 0; y = pos 0; z = pos 0; mark = pos 0 }
 
 -- a cell's row more
 pub row_more : (cells : List RawCell) (rows : List (List ℕ)) (at : ℕ) (row : List ℕ) → at < length cells → AllZip IsAscending (take at cells) rows

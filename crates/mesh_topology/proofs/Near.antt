@@ -1,23 +1,23 @@
 -- The ids near an element: which list is the one of the definitions.
-use Rattle.std.proofs.Common.{◌≡◌, ℕ, zero, suc, ◌+◌, ◌-◌, ◌<◌, ◌≤◌, ◌||◌, ◌&&◌, ◌==◌, Bool, true, false, List, [], ◌∷◌, map, length, get_or, filter}
+use Rattle.std.proofs.Common.{◌≡◌, ℕ, zero, suc, ◌+◌, ◌-◌, ◌<◌, ◌≤◌, ◌||◌, Bool, true, false, List, [], ◌∷◌, map, length, get_or, filter}
 use Rattle.std.proofs.Common.{flat_map, refl, sym, ap, subst, ◌∙◌, inl, inr, arith, ltb-true, cond, nat_lt}
-use Rattle.std.specs.List.{list_any, range_with_len, AllZip}
+use Rattle.std.specs.List.{range_with_len, AllZip}
 use Rattle.std.specs.List.Sorted.{IsNonDecreasing, IsPermutation}
 use Rattle.std.proofs.lemmas.Bool.{cases_order, false_from_ne_true}
 use Rattle.std.proofs.lemmas.List.Concat.{flat_map_single}
 use Rattle.std.proofs.lemmas.List.Sorted.{Contains-permutation, IsPermutation-sym, length_permutation}
 use Rattle.std.proofs.lemmas.List.{get_or-map, length-map}
-use Rattle.liszt_base.specs.Corners.{is_in, includes, are_different, IsCell, IsMesh}
+use Rattle.liszt_base.specs.Corners.{includes, are_different, IsCell, IsMesh}
 use Rattle.liszt_base.specs.MeshLists.{MeshLists}
 use Rattle.liszt_base.specs.declared.elements.Kind.{Kind}
-use Rattle.liszt_base.specs.declared.elements.Kind.TheVariants.{Vertex, Edge, Face, Cell}
-use Rattle.mesh_topology.specs.Elements.{sets_of, numbers, corner_lists, elements, count, corners, one_includes_other, is_incident, near, HasCorners}
+use Rattle.liszt_base.specs.declared.elements.Kind.TheVariants.{Vertex, Cell}
+use Rattle.mesh_topology.specs.Elements.{sets_of, numbers, corner_lists, elements, count, corners, one_includes_other, HasCorners}
 use Rattle.mesh_topology.specs.Choices.{choices, AreRanks, IsAscending, IsTableOf}
 use Rattle.mesh_topology.proofs.Sets.{contained_member, member_contained, member_flat, member_flattened, any_found, any_by, all_at}
-use Rattle.mesh_topology.proofs.Sets.{Member, in_member, member_in, included, includes_by, member_at, member_kept, member_of_kept, member_range, member_ranged, member_map, member_mapped, no_longer}
-use Rattle.mesh_topology.proofs.Rising.{Pairs, pairs_of, Between, bounds, rising_pairs, between_pairs, different, Before, not_before_itself}
+use Rattle.mesh_topology.proofs.Sets.{Member, included, includes_by, member_at, member_kept, member_of_kept, member_range, member_ranged, member_map, member_mapped, no_longer}
+use Rattle.mesh_topology.proofs.Rising.{Pairs, bounds, rising_pairs, between_pairs, different, Before, not_before_itself}
 use Rattle.mesh_topology.proofs.Ranked.{ordered, element_is, is_element, each_at}
-use Rattle.mesh_topology.proofs.Chosen.{Rises, IsChoice, choice_is, is_choice, choices_ordered}
+use Rattle.mesh_topology.proofs.Chosen.{Rises, choice_is, is_choice, choices_ordered}
 use Rattle.mesh_topology.proofs.Listed.{same_list, not_both_before, same_table, zip_long, zip_at, no_cell}
 use Rattle.mesh_topology.proofs.FaceEdges.{placed}
 
@@ -137,6 +137,10 @@ rising_is mesh kind size h id l =
 pub cell_is : (mesh : MeshLists) → IsMesh (length mesh.points) (corner_lists mesh) → (cell : ℕ) → cell < count mesh Cell
     → IsCell (length mesh.points) (corners mesh Cell cell)
 cell_is mesh is cell l = each_at (IsCell (length mesh.points)) (corner_lists mesh) (corners mesh Cell cell) is.each (member_at (corner_lists mesh) cell [] l)
+
+-- there are as many as lines
+pub cell_count : (mesh : MeshLists) → count mesh Cell ≡ length mesh.cells
+cell_count mesh = length-map mesh.cells (λ cell. cell.corners)
 
 -- elements stand in lexicographic order, so of two of them the lower id is that of the earlier one
 lower_id : (mesh : MeshLists) (kind : Kind) (size : ℕ) → HasCorners kind size → (x y : ℕ) → x < count mesh kind → y < count mesh kind
@@ -270,13 +274,10 @@ pub record AreRows (mesh : MeshLists) (rows : List (List ℕ)) : Type 0 where
   pub row : (cell : ℕ) → cell < count mesh Cell → HasRow (corners mesh Cell cell) (get_or rows cell [])
 
 pub are_rows : (mesh : MeshLists) → IsMesh (length mesh.points) (corner_lists mesh) → (rows : List (List ℕ)) → AllZip IsAscending mesh.cells rows → AreRows mesh rows
-are_rows mesh is rows all = record { long = sym (zip_long IsAscending mesh.cells rows all) ∙ sym cells; row = row } where
-  cells : count mesh Cell ≡ length mesh.cells
-  cells = length-map mesh.cells (λ cell. cell.corners)
-
+are_rows mesh is rows all = record { long = sym (zip_long IsAscending mesh.cells rows all) ∙ sym (cell_count mesh); row = row } where
   row : (cell : ℕ) → cell < count mesh Cell → HasRow (corners mesh Cell cell) (get_or rows cell [])
   row cell l =
-      let k : cell < length mesh.cells = subst (λ n. cell < n) cells l in
+      let k : cell < length mesh.cells = subst (λ n. cell < n) (cell_count mesh) l in
       let z = zip_at IsAscending mesh.cells rows cell no_cell [] all k in
       let e : corners mesh Cell cell ≡ (get_or mesh.cells cell no_cell).corners = get_or-map (λ cell. cell.corners) mesh.cells cell no_cell [] k in
       row_is (length mesh.points) (corners mesh Cell cell) (get_or rows cell []) (cell_is mesh is cell l) z.ascends (subst (λ cs. IsPermutation cs (get_or rows cell [])) (sym e) z.permutes)

@@ -1,11 +1,16 @@
 -- Choices of members of a list, and tables of them. Contracts of private functions cite these. This project's own.
-use Rattle.std.specs.Prelude.{◌≡◌, ◌↔◌, ℕ, zero, suc, List, [], ◌∷◌, ◌++◌, ◌<◌, map, length, slice_index_or}
+use Rattle.std.specs.Prelude.{◌≡◌, ◌↔◌, ℕ, zero, suc, List, [], ◌∷◌, ◌++◌, ◌<◌, ◌^◌, map, length, slice_index_or}
 use Rattle.std.specs.Cmp.Lexicographic.{slice_cmp}
 use Rattle.std.specs.List.{AllPairs, Contains}
 use Rattle.std.specs.List.Sorted.{IsNonDecreasing, IsPermutation}
 use Rattle.std.specs.Ordering.{nat_cmp}
 use Rattle.std.specs.declared.cmp.Ordering.TheVariants.{Less}
+use Rattle.liszt_base.specs.Corners.{IsMesh}
+use Rattle.liszt_base.specs.MeshLists.{MeshLists}
+use Rattle.liszt_base.specs.declared.elements.Kind.{Kind}
+use Rattle.liszt_base.specs.declared.elements.Kind.TheVariants.{Edge, Face}
 use Rattle.liszt_base.specs.declared.mesh.RawCell.{RawCell}
+use Rattle.mesh_topology.specs.Elements.{corner_lists, elements, count}
 
 -- all lists of so many members of a list, each in the order of the list
 abbrev pub choices : ℕ → List ℕ → List (List ℕ)
@@ -27,3 +32,10 @@ pub record IsAscending (cell : RawCell) (row : List ℕ) : Type 0 where
 pub record AreRanks (table sets : List (List ℕ)) (ids : List ℕ) : Type 0 where
   pub below : (id : ℕ) → Contains ids id → id < length table
   pub are : map (λ id. slice_index_or table id []) ids ≡ sets
+
+-- what the tables of a mesh keep
+pub record AreTables (mesh : MeshLists) (edges faces : List (List ℕ)) : Type 0 where
+  pub is : IsMesh (length mesh.points) (corner_lists mesh)
+  pub fits : (kind : Kind) → count mesh kind < 2 ^ 32
+  pub edges_are : edges ≡ elements mesh Edge
+  pub faces_are : faces ≡ elements mesh Face

@@ -1,6 +1,10 @@
 //! The pairs and triples of corners, and tables of them.
 
-ghost use Rattle.std.specs.Prelude.{◌≡◌};
+ghost use Rattle.std.specs.Prelude.{◌≡◌, ◌≢◌, ℕ, ◌<◌, ◌^◌, [], length, slice_index_or, IfSome, IfNone};
+ghost use Rattle.std.specs.Cmp.Lexicographic.{slice_cmp};
+ghost use Rattle.std.specs.List.{AllPairs};
+ghost use Rattle.std.specs.Ordering.{nat_cmp};
+ghost use Rattle.std.specs.declared.cmp.Ordering.TheVariants.{Less};
 ghost use Rattle.mesh_topology.specs.Choices.{choices, IsTableOf};
 
 /// The six pairs of four corners, each in their order.
@@ -33,4 +37,17 @@ pub fn make_table<const N: usize>(sets: &mut Vec<[u32; N]>)
 {
     sets.sort_unstable();
     sets.dedup();
+}
+
+/// Where a set of corners stands in a table.
+pub fn place<const N: usize>(table: &[[u32; N]], set: &[u32; N]) -> Option<u32>
+    requires few { length table.now < 2 ^ 32 }
+    requires ordered { AllPairs (λ x y. slice_cmp nat_cmp x y ≡ Less) table.now }
+    ensures found { IfSome result (λ id. (id < length table.now) × (slice_index_or table.now id [] ≡ set.now)) }
+    ensures none { IfNone result ((id : ℕ) → id < length table.now → slice_index_or table.now id [] ≢ set.now) }
+{
+    match table.binary_search(set) {
+        Ok(id) => Some(id as u32),
+        Err(_) => None,
+    }
 }

@@ -5,4 +5,7 @@
 mod cases;
 mod corner_sets;
 pub mod laws;
+mod mesh;
 mod tables;
+
+pub use mesh::Mesh;

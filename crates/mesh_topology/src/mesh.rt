@@ -1,0 +1,109 @@
+//! A mesh with the tables of its elements.
+
+ghost use Rattle.std.specs.Prelude.{◌≡◌, ◌<◌, ◌^◌, [], ◌∷◌, IfOk, IfSome, Some, length, slice_get};
+ghost use Rattle.liszt_base.specs.Corners.{IsMesh};
+ghost use Rattle.liszt_base.specs.declared.elements.Kind.{Kind as KindOf};
+ghost use Rattle.liszt_base.specs.declared.elements.Kind.TheVariants.{Vertex, Edge, Face, Cell};
+ghost use Rattle.mesh_topology.specs.Elements.{corner_lists, count, corners, id_of_corners};
+
+use crate::corner_sets::place;
+use crate::tables::{cell_vertices, edges, faces};
+use liszt_base::{Kind, NoMemory, Point, RawMesh};
+use std::alloc::Global;
+use std::marker::Model;
+
+/// A mesh whose elements are numbered. Contracts see its points and cells.
+#[derive(Drop)]
+pub struct Mesh {
+    raw: RawMesh,
+    edges: Vec<[u32; 2]>,
+    faces: Vec<[u32; 3]>,
+}
+
+impl Model for Mesh {
+    ghost use Rattle.liszt_base.specs.MeshLists.{MeshLists};
+    ghost use Rattle.mesh_topology.specs.Choices.{AreTables};
+
+    ghost Value = { MeshLists };
+
+    ghost view = { λ m. m.raw };
+
+    ghost invariant = { λ m. AreTables m.raw m.edges.items m.faces.items };
+}
+
+impl Mesh {
+    /// The mesh of these points and cells, with its tables.
+    pub fn build(alloc: Global, raw: RawMesh) -> Result<Mesh, NoMemory>
+        requires mesh { IsMesh (length raw.points) (corner_lists raw) }
+        requires fits { (kind : KindOf) → count raw kind < 2 ^ 32 }
+        ensures { IfOk result (λ mesh. mesh ≡ raw) }
+    {
+        let rows = cell_vertices(alloc, raw.cells())?;
+        let edges = edges(alloc, rows.as_slice())?;
+        let faces = faces(alloc, rows.as_slice())?;
+        Ok(Mesh { raw, edges, faces })
+    }
+
+    /// How many elements of a kind there are.
+    pub fn count(&self, kind: Kind) -> u32
+        ensures { result ≡ count self.now kind }
+    {
+        match kind {
+            Kind::Vertex => self.raw.points().len() as u32,
+            Kind::Edge => self.edges.len() as u32,
+            Kind::Face => self.faces.len() as u32,
+            Kind::Cell => self.raw.cells().len() as u32,
+        }
+    }
+
+    /// The two ends of an edge, the lower one first.
+    pub fn edge_ends(&self, e: u32) -> (u32, u32)
+        requires { e < count self.now Edge }
+        ensures { corners self.now Edge e ≡ result.0 ∷ result.1 ∷ [] }
+    {
+        let [a, b] = self.edges[e as usize];
+        (a, b)
+    }
+
+    /// The three corners of a face, ascending.
+    pub fn face_corners(&self, f: u32) -> [u32; 3]
+        requires { f < count self.now Face }
+        ensures { result ≡ corners self.now Face f }
+    {
+        self.faces[f as usize]
+    }
+
+    /// The four corners of a cell, in the order of its line.
+    pub fn cell_corners(&self, c: u32) -> [u32; 4]
+        requires { c < count self.now Cell }
+        ensures { result ≡ corners self.now Cell c }
+    {
+        self.raw.cells()[c as usize].corners
+    }
+
+    /// The edge between two vertices, in either order.
+    pub fn edge_number(&self, a: u32, b: u32) -> Option<u32>
+        requires first { a < count self.now Vertex }
+        requires second { b < count self.now Vertex }
+        ensures { result ≡ id_of_corners self.now Edge (a ∷ b ∷ []) }
+    {
+        let ends = if a < b { [a, b] } else { [b, a] };
+        place(self.edges.as_slice(), &ends)
+    }
+
+    /// A vertex's point.
+    pub fn point(&self, v: u32) -> Point
+        requires { v < count self.now Vertex }
+        ensures { slice_get self.now.points v ≡ Some result }
+    {
+        self.raw.points()[v as usize]
+    }
+
+    /// A cell's region.
+    pub fn region(&self, c: u32) -> i64
+        requires { c < count self.now Cell }
+        ensures { IfSome (slice_get self.now.cells c) (λ cell. cell.region ≡ result) }
+    {
+        self.raw.cells()[c as usize].region
+    }
+}
