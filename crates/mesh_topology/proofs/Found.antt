@@ -1,16 +1,18 @@
 -- What a search in a table finds, and the edge between two vertices.
-use Rattle.std.proofs.Common.{◌≡◌, ◌⊎◌, ℕ, ◌+◌, ◌<◌, ◌≤◌, true, false, List, [], ◌∷◌, length, get_or, AllPairs, Option, Some, None, IfSome, IfNone, nat_cmp, Less, Equal, Greater, Ordering, refl, sym, ap, subst, ◌∙◌, inl, inr, arith}
+use Rattle.std.proofs.Common.{◌≡◌, ◌⊎◌, ℕ, ◌+◌, ◌<◌, ◌≤◌, true, false, List, [], ◌∷◌, length, map, set, get_or, AllPairs, Contains, Option, Some, None, IfSome, IfNone, nat_cmp, Less, Equal, Greater, Ordering, refl, sym, ap, subst, ◌∙◌, inl, inr, arith}
 use Rattle.std.specs.Cmp.Lexicographic.{slice_cmp, nat_list_cmp_total, texts_ties, same_text}
 use Rattle.std.specs.List.{HoldsAt}
 use Rattle.std.specs.List.Sorted.{IsSorted, IsNonDecreasingBy, IsPartitionPoint}
 use Rattle.std.specs.Ordering.{is_lt, is_eq, ordering_index}
-use Rattle.std.proofs.lemmas.Bool.{and_parts, and_from, cases_lt}
+use Rattle.std.proofs.lemmas.Bool.{and_parts, and_from, cases_eq, cases_lt}
+use Rattle.std.proofs.lemmas.List.{ext_get_or, get_or-map, get_or-set_same, get_or-set_other, get_or_default, length-map, length-set}
 use Rattle.std.proofs.lemmas.Cmp.{tied_itself}
 use Rattle.std.proofs.lemmas.List.Quantifiers.{position-Some}
 use Rattle.std.proofs.lemmas.List.Sorted.{searchable_from_sorted}
 use Rattle.liszt_base.specs.Corners.{includes, same_members}
 use Rattle.liszt_base.specs.MeshLists.{MeshLists}
 use Rattle.liszt_base.specs.declared.elements.Kind.TheVariants.{Edge}
+use Rattle.mesh_topology.specs.Choices.{AreRanks, AreRanksSoFar}
 use Rattle.mesh_topology.specs.Elements.{elements, count, corners, id_of_corners}
 use Rattle.mesh_topology.proofs.Sets.{Member, included, includes_trans}
 use Rattle.mesh_topology.proofs.Rising.{Before}
@@ -110,3 +112,32 @@ pub other_order : (a b : ℕ) → same_members (a ∷ b ∷ []) (b ∷ a ∷ [])
 other_order a b = same_by (a ∷ b ∷ []) (b ∷ a ∷ []) (turned a b) (turned b a) where
   turned : (a b x : ℕ) → Member x (a ∷ b ∷ []) → Member x (b ∷ a ∷ [])
   turned a b x m = grind arith
+
+-- a set more
+pub ranks_more : (table sets : List (List ℕ)) (i : ℕ) (ids : List ℕ) (id : ℕ) → i < length sets → AreRanksSoFar table sets i ids → id < length table → get_or table id [] ≡ get_or sets i []
+    → AreRanksSoFar table sets (i + 1) (set ids i id)
+ranks_more table sets i ids id l so below stands = record { long = length-set ids i id ∙ so.long; at = at } where
+  here : i < length ids
+  here = omega (arith, so.long)
+
+  at : (k : ℕ) → k < i + 1 → (get_or (set ids i id) k 0 < length table) × (get_or table (get_or (set ids i id) k 0) [] ≡ get_or sets k [])
+  at k m = elim (cases_eq k i) [
+    | inl e ↦
+        let same : get_or (set ids i id) k 0 ≡ id = ap (λ j. get_or (set ids i id) j 0) e ∙ get_or-set_same ids i id 0 here in
+        (subst (λ v. v < length table) (sym same) below, ap (λ v. get_or table v []) same ∙ (stands ∙ ap (λ j. get_or sets j []) (sym e)))
+    | inr ne ↦
+        let same : get_or (set ids i id) k 0 ≡ get_or ids k 0 = get_or-set_other ids i k id 0 ne in
+        let one = so.at k (omega arith) in
+        (subst (λ v. v < length table) (sym same) one.0, ap (λ v. get_or table v []) same ∙ one.1)
+  ]
+
+-- all sets
+pub ranks_all : (table sets : List (List ℕ)) (i : ℕ) (ids : List ℕ) → length sets ≤ i → AreRanksSoFar table sets i ids → AreRanks table sets ids
+ranks_all table sets i ids l so = record { below = below; are = ext_get_or [] (map (λ id. get_or table id []) ids) sets (length-map ids (λ id. get_or table id []) ∙ so.long) same } where
+  below : (id : ℕ) → Contains ids id → id < length table
+  below id c = let k : c.0 < i = omega (arith, so.long, c.1) in subst (λ v. v < length table) (get_or_default ids c.0 0 id c.1 ∙ c.2) (so.at c.0 k).0
+
+  same : (k : ℕ) → k < length (map (λ id. get_or table id []) ids) → get_or (map (λ id. get_or table id []) ids) k [] ≡ get_or sets k []
+  same k m =
+      let n : k < length ids = subst (λ v. k < v) (length-map ids (λ id. get_or table id [])) m in
+      get_or-map (λ id. get_or table id []) ids k 0 [] n ∙ (so.at k (omega (arith, so.long))).1

@@ -9,3 +9,4 @@ pub mod Ranked
 pub mod Rising
 pub mod Sets
 pub mod Sides
+pub mod Turned

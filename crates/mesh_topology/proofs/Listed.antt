@@ -97,9 +97,14 @@ no_cell = record { corners = []; region = pos 0 }
 abbrev pub no_point : Point
 no_point = record { x = pos 0; y = pos 0; z = pos 0; mark = pos 0 }
 
+-- a pair more, of a longer front
+pub zip_more : {A B : Type 0} (R : A → B → Type 0) (xs : List A) (ys : List B) (i : ℕ) (d : A) (y : B) → i < length xs → AllZip R (take i xs) ys → R (get_or xs i d) y
+    → AllZip R (take (i + 1) xs) (ys ++ y ∷ [])
+zip_more R xs ys i d y l all one = rw (take_more xs i d) (zip_push R (take i xs) ys (get_or xs i d) y all one)
+
 -- a cell's row more
 pub row_more : (cells : List RawCell) (rows : List (List ℕ)) (at : ℕ) (row : List ℕ) → at < length cells → AllZip IsAscending (take at cells) rows
     → IsNonDecreasing row → IsPermutation (get_or cells at no_cell).corners row → AllZip IsAscending (take (at + 1) cells) (rows ++ row ∷ [])
 row_more cells rows at row l all up moved =
     let one : IsAscending (get_or cells at no_cell) row = record { ascends = up; permutes = moved } in
-    rw (take_more cells at no_cell) (zip_push IsAscending (take at cells) rows (get_or cells at no_cell) row all one)
+    zip_more IsAscending cells rows at no_cell row l all one

@@ -1,5 +1,5 @@
 -- Choices of members of a list, and tables of them. Contracts of private functions cite these. This project's own.
-use Rattle.std.specs.Prelude.{◌≡◌, ◌↔◌, ℕ, zero, suc, List, [], ◌∷◌, ◌++◌, ◌<◌, ◌^◌, map, length, slice_index_or}
+use Rattle.std.specs.Prelude.{◌≡◌, ◌↔◌, ℕ, zero, suc, List, [], ◌∷◌, ◌++◌, ◌<◌, ◌^◌, map, length, slice_index, slice_index_or}
 use Rattle.std.specs.Cmp.Lexicographic.{slice_cmp}
 use Rattle.std.specs.List.{AllPairs, Contains}
 use Rattle.std.specs.List.Sorted.{IsNonDecreasing, IsPermutation}
@@ -33,9 +33,18 @@ pub record AreRanks (table sets : List (List ℕ)) (ids : List ℕ) : Type 0 whe
   pub below : (id : ℕ) → Contains ids id → id < length table
   pub are : map (λ id. slice_index_or table id []) ids ≡ sets
 
+-- all choices of so many of these corners stand in a table
+abbrev pub HasChoices : ℕ → List (List ℕ) → List ℕ → Type 0
+HasChoices size table corners = (set : List ℕ) → Contains (choices size corners) set → Contains table set
+
 -- what the tables of a mesh keep
 pub record AreTables (mesh : MeshLists) (edges faces : List (List ℕ)) : Type 0 where
   pub is : IsMesh (length mesh.points) (corner_lists mesh)
   pub fits : (kind : Kind) → count mesh kind < 2 ^ 32
   pub edges_are : edges ≡ elements mesh Edge
   pub faces_are : faces ≡ elements mesh Face
+
+-- the first of these sets stand in a table at these places
+pub record AreRanksSoFar (table sets : List (List ℕ)) (done : ℕ) (ids : List ℕ) : Type 0 where
+  pub long : length ids ≡ length sets
+  pub at : (k : ℕ) → k < done → (slice_index ids k < length table) × (slice_index_or table (slice_index ids k) [] ≡ slice_index_or sets k [])

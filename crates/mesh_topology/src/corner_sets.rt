@@ -1,11 +1,11 @@
 //! The pairs and triples of corners, and tables of them.
 
-ghost use Rattle.std.specs.Prelude.{◌≡◌, ◌≢◌, ℕ, ◌<◌, ◌^◌, [], length, slice_index_or, IfSome, IfNone};
+ghost use Rattle.std.specs.Prelude.{◌≡◌, ◌≢◌, ℕ, ◌<◌, ◌^◌, List, [], length, slice_index_or, IfSome, IfNone};
 ghost use Rattle.std.specs.Cmp.Lexicographic.{slice_cmp};
-ghost use Rattle.std.specs.List.{AllPairs};
+ghost use Rattle.std.specs.List.{AllPairs, Contains};
 ghost use Rattle.std.specs.Ordering.{nat_cmp};
 ghost use Rattle.std.specs.declared.cmp.Ordering.TheVariants.{Less};
-ghost use Rattle.mesh_topology.specs.Choices.{choices, IsTableOf};
+ghost use Rattle.mesh_topology.specs.Choices.{choices, AreRanks, IsTableOf};
 
 /// The six pairs of four corners, each in their order.
 pub fn pairs_of_four(corners: [u32; 4]) -> [[u32; 2]; 6]
@@ -50,4 +50,32 @@ pub fn place<const N: usize>(table: &[[u32; N]], set: &[u32; N]) -> Option<u32>
         Ok(id) => Some(id as u32),
         Err(_) => None,
     }
+}
+
+/// The place of a set that stands in a table.
+fn rank<const N: usize>(table: &[[u32; N]], set: &[u32; N]) -> u32
+    requires few { length table.now < 2 ^ 32 }
+    requires ordered { AllPairs (λ x y. slice_cmp nat_cmp x y ≡ Less) table.now }
+    requires inside { Contains table.now set.now }
+    ensures below { result < length table.now }
+    ensures stands { slice_index_or table.now result [] ≡ set.now }
+{
+    match place(table, set) {
+        Some(id) => id,
+        None => unreachable!(),
+    }
+}
+
+/// The places of sets that stand in a table.
+pub fn ranks<const N: usize, const L: usize>(table: &[[u32; N]], sets: &[[u32; N]; L]) -> [u32; L]
+    requires few { length table.now < 2 ^ 32 }
+    requires ordered { AllPairs (λ x y. slice_cmp nat_cmp x y ≡ Less) table.now }
+    requires inside { (set : List ℕ) → Contains sets.now set → Contains table.now set }
+    ensures { AreRanks table.now sets.now result }
+{
+    let mut ids = [0; L];
+    for i in 0..L {
+        ids[i] = rank(table, &sets[i]);
+    }
+    ids
 }

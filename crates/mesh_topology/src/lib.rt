@@ -4,6 +4,7 @@
 
 mod cases;
 mod corner_sets;
+mod incidence;
 pub mod laws;
 mod mesh;
 mod tables;
