@@ -1,3 +1,4 @@
+pub mod Besides
 pub mod Chosen
 pub mod Cycles
 pub mod FaceEdges

@@ -1,6 +1,6 @@
 -- Lists of ids for each element, turned round and joined. Contracts of private functions cite these. This project's own.
-use Rattle.std.specs.Prelude.{◌≡◌, ℕ, ◌<◌, ◌++◌, List, [], ◌∷◌, map, length, slice_index_or, if◌then◌else◌}
-use Rattle.std.specs.List.{filter}
+use Rattle.std.specs.Prelude.{◌≡◌, ◌↔◌, ℕ, ◌<◌, ◌==◌, ◌++◌, not, Bool, List, [], ◌∷◌, map, length, slice_index_or, if◌then◌else◌}
+use Rattle.std.specs.List.{filter, flat_map, AllPairs, Contains}
 use Rattle.liszt_base.specs.Corners.{is_in}
 use Rattle.mesh_topology.specs.Elements.{numbers}
 
@@ -17,3 +17,20 @@ pub record IsAdded (row : List ℕ) (id : ℕ) (old new : List (List ℕ)) : Typ
 pub record IsTurnedSoFar (rows : List (List ℕ)) (count done : ℕ) (lists : List (List ℕ)) : Type 0 where
   pub long : length lists ≡ count
   pub at : (y : ℕ) → y < count → slice_index_or lists y [] ≡ filter (λ x. is_in (slice_index_or rows x []) y) (numbers 0 done)
+
+-- the same numbers, each once, ascending
+pub record IsSetOf (ids set : List ℕ) : Type 0 where
+  pub rises : AllPairs (λ x y. x < y) set
+  pub members : (x : ℕ) → Contains set x ↔ Contains ids x
+
+abbrev pub is_other : ℕ → ℕ → Bool
+is_other id other = not (other == id)
+
+-- the ids on the lists of a list, but one
+abbrev pub others_on : ℕ → List (List ℕ) → List ℕ → List ℕ
+others_on id lists through = flat_map (λ by. filter (is_other id) (slice_index_or lists by [])) through
+
+-- for each of the first ids the set of those
+pub record AreBeside (through back : List (List ℕ)) (done : ℕ) (all : List (List ℕ)) : Type 0 where
+  pub long : length all ≡ done
+  pub at : (id : ℕ) → id < done → IsSetOf (others_on id back (slice_index_or through id [])) (slice_index_or all id [])

@@ -1,8 +1,8 @@
 //! Lists of ids for each element, turned round and joined.
 
-ghost use Rattle.std.specs.Prelude.{◌≡◌, ℕ, ◌<◌, ◌^◌, List, [], IfOk, OnOk, length, replicate, slice_index_or};
-ghost use Rattle.std.specs.List.{All, AllPairs, Contains};
-ghost use Rattle.mesh_topology.specs.Incidence.{turned, IsAdded};
+ghost use Rattle.std.specs.Prelude.{◌≡◌, ◌<◌, ◌^◌, ◌++◌, [], IfOk, OnOk, length, replicate};
+ghost use Rattle.std.specs.List.{All, AllPairs, filter};
+ghost use Rattle.mesh_topology.specs.Incidence.{turned, is_other, others_on, AreBeside, IsAdded, IsSetOf};
 
 use liszt_base::{NoMemory, PlainList, PlainLists};
 use std::alloc::Global;
@@ -53,4 +53,62 @@ pub fn turn<const N: usize>(alloc: Global, rows: &[[u32; N]], count: u32) -> Res
         add_to_each(&mut lists, row, id as u32)?;
     }
     flattened(alloc, lists.as_slice())
+}
+
+/// The rows as lists.
+pub fn as_lists<const N: usize>(alloc: Global, rows: &[[u32; N]]) -> Result<PlainLists<u32>, NoMemory>
+    ensures { IfOk result (λ lists. lists ≡ rows.now) }
+{
+    let mut lists = PlainLists::new(alloc);
+    for row in rows {
+        lists.push(row)?;
+    }
+    Ok(lists)
+}
+
+/// Sorts ids, and leaves each of them once.
+fn make_set(ids: &mut Vec<u32>)
+    ensures { IsSetOf ids.old.items ids.new.items }
+{
+    ids.sort_unstable();
+    ids.dedup();
+}
+
+/// Adds the ids of a list but one.
+fn add_others(others: &mut Vec<u32>, list: &[u32], id: u32) -> Result<(), NoMemory>
+    ensures { OnOk result (others.new.items ≡ others.old.items ++ filter (is_other id) list.now) }
+{
+    for other in list {
+        if *other != id {
+            others.push(*other)?;
+        }
+    }
+    Ok(())
+}
+
+/// The ids on the lists of a list, but one.
+fn beside(alloc: Global, id: u32, through: &[u32], back: &PlainLists<u32>) -> Result<Vec<u32>, NoMemory>
+    requires { All (λ by. by < length back.now) through.now }
+    ensures { IfOk result (λ others. IsSetOf (others_on id back.now through.now) others.items) }
+{
+    let mut others = Vec::new(alloc);
+    for by in through {
+        add_others(&mut others, back.of(*by as usize), id)?;
+    }
+    make_set(&mut others);
+    Ok(others)
+}
+
+/// For each id those on the lists of its list, but itself.
+pub fn all_beside(alloc: Global, through: &PlainLists<u32>, back: &PlainLists<u32>) -> Result<PlainLists<u32>, NoMemory>
+    requires few { length through.now < 2 ^ 32 }
+    requires below { All (All (λ by. by < length back.now)) through.now }
+    ensures { IfOk result (AreBeside through.now back.now (length through.now)) }
+{
+    let mut all = PlainLists::new(alloc);
+    for id in 0..through.len() {
+        let others = beside(alloc, id as u32, through.of(id), back)?;
+        all.push(others.as_slice())?;
+    }
+    Ok(all)
 }
