@@ -1,23 +1,29 @@
--- What the tables of a mesh keep follows from how they are built.
-use Rattle.std.proofs.Common.{◌≡◌, ℕ, ◌^◌, ◌<◌, List, length, flat_map, refl, subst}
-use Rattle.std.specs.List.{AllZip}
+-- The tables of a mesh are those of the definitions, as they are built.
+use Rattle.std.proofs.Common.{◌≡◌, ℕ, ◌<◌, ◌^◌, List, length, flat_map, refl, sym, ap, subst, ◌∙◌}
+use Rattle.std.specs.List.{All, AllZip}
 use Rattle.liszt_base.specs.Corners.{IsMesh}
 use Rattle.liszt_base.specs.MeshLists.{MeshLists}
 use Rattle.liszt_base.specs.declared.elements.Kind.{Kind}
-use Rattle.liszt_base.specs.declared.elements.Kind.TheVariants.{Edge, Face}
 use Rattle.liszt_base.specs.declared.mesh.RawCell.{RawCell}
-use Rattle.mesh_topology.specs.Elements.{corner_lists, count}
-use Rattle.mesh_topology.specs.Choices.{choices, IsAscending, IsTableOf, AreTables}
-use Rattle.mesh_topology.proofs.Near.{are_rows, table_is}
+use Rattle.mesh_topology.specs.Choices.{choices, IsAscending, IsSmallTable, IsTableOf}
+use Rattle.mesh_topology.specs.Elements.{corner_lists, elements, HasCorners}
+use Rattle.mesh_topology.specs.Tables.{IsSmallMesh}
+use Rattle.mesh_topology.proofs.Ranked.{ordered}
+use Rattle.mesh_topology.proofs.Near.{AreRows, are_rows, table_is}
 
-pub tables_are : (mesh : MeshLists) → IsMesh (length mesh.points) (corner_lists mesh) → ((kind : Kind) → count mesh kind < 2 ^ 32) → (cells : List RawCell) (rows first second edges faces : List (List ℕ))
-    → cells ≡ mesh.cells → AllZip IsAscending cells rows → first ≡ rows → IsTableOf (flat_map (choices 2) first) edges → second ≡ rows → IsTableOf (flat_map (choices 3) second) faces
-    → AreTables mesh edges faces
-tables_are mesh is fits cells rows first second edges faces same all one two three four =
-    let are = are_rows mesh is rows (subst (λ cs. AllZip IsAscending cs rows) same all) in
-    record {
-      is = is;
-      fits = fits;
-      edges_are = table_is mesh is rows are Edge 2 refl edges (subst (λ rs. IsTableOf (flat_map (choices 2) rs) edges) one two);
-      faces_are = table_is mesh is rows are Face 3 refl faces (subst (λ rs. IsTableOf (flat_map (choices 3) rs) faces) three four);
-    }
+-- the table of the choices from the rows of all cells
+pub elements_are : (mesh : MeshLists) → IsSmallMesh mesh → (kind : Kind) (size : ℕ) → HasCorners kind size → (cells : List RawCell) (rows read table : List (List ℕ))
+    → cells ≡ mesh.cells → AllZip IsAscending cells rows → read ≡ rows → IsTableOf (flat_map (choices size) read) table → table ≡ elements mesh kind
+elements_are mesh small kind size h cells rows read table same all e t =
+    let are = are_rows mesh small.is rows (subst (λ cs. AllZip IsAscending cs rows) same all) in
+    table_is mesh small.is rows are kind size h table (subst (λ rs. IsTableOf (flat_map (choices size) rs) table) e t)
+
+-- it can be searched
+pub small_table : (mesh : MeshLists) → IsSmallMesh mesh → (kind : Kind) (size : ℕ) → HasCorners kind size → (table : List (List ℕ)) → table ≡ elements mesh kind → IsSmallTable table
+small_table mesh small kind size h table e =
+    let all : IsSmallTable (elements mesh kind) = record { few = small.fits kind; ordered = ordered mesh kind size h } in
+    subst (λ t. IsSmallTable t) (sym e) all
+
+-- the rows of all cells
+pub table_rows : (mesh : MeshLists) → IsMesh (length mesh.points) (corner_lists mesh) → (rows read : List (List ℕ)) → read ≡ rows → AllZip IsAscending mesh.cells rows → AreRows mesh read
+table_rows mesh is rows read e all = subst (λ r. AreRows mesh r) (sym e) (are_rows mesh is rows all)

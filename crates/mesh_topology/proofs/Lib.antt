@@ -5,9 +5,11 @@ pub mod FaceEdges
 pub mod Found
 pub mod Kept
 pub mod Listed
+pub mod Lowers
 pub mod Near
 pub mod Ranked
 pub mod Rising
 pub mod Sets
 pub mod Sides
 pub mod Turned
+pub mod Uppers

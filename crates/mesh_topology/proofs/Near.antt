@@ -17,7 +17,7 @@ use Rattle.mesh_topology.proofs.Sets.{contained_member, member_contained, member
 use Rattle.mesh_topology.proofs.Sets.{Member, included, includes_by, member_at, member_kept, member_of_kept, member_range, member_ranged, member_map, member_mapped, no_longer}
 use Rattle.mesh_topology.proofs.Rising.{Pairs, bounds, rising_pairs, between_pairs, different, Before, not_before_itself}
 use Rattle.mesh_topology.proofs.Ranked.{ordered, element_is, is_element, each_at}
-use Rattle.mesh_topology.proofs.Chosen.{Rises, choice_is, is_choice, choices_ordered}
+use Rattle.mesh_topology.proofs.Chosen.{Rises, IsChoice, choice_is, is_choice, choices_ordered}
 use Rattle.mesh_topology.proofs.Listed.{same_list, not_both_before, same_table, zip_long, zip_at, no_cell}
 use Rattle.mesh_topology.proofs.FaceEdges.{placed}
 
@@ -282,6 +282,17 @@ are_rows mesh is rows all = record { long = sym (zip_long IsAscending mesh.cells
       let e : corners mesh Cell cell ≡ (get_or mesh.cells cell no_cell).corners = get_or-map (λ cell. cell.corners) mesh.cells cell no_cell [] k in
       row_is (length mesh.points) (corners mesh Cell cell) (get_or rows cell []) (cell_is mesh is cell l) z.ascends (subst (λ cs. IsPermutation cs (get_or rows cell [])) (sym e) z.permutes)
 
+-- a rising list of corners of a cell is an element
+pub in_cell : (mesh : MeshLists) → IsMesh (length mesh.points) (corner_lists mesh) → (cell : ℕ) → cell < count mesh Cell → (kind : Kind) (size : ℕ) → HasCorners kind size
+    → (cs set : List ℕ) → IsChoice size cs set → ((x : ℕ) → Member x cs → Member x (corners mesh Cell cell)) → Member set (elements mesh kind)
+in_cell mesh is cell l kind size h cs set c out =
+    let all = corners mesh Cell cell in
+    let inside = λ (x : ℕ) (n : Member x set). out x (c.inside x n) in
+    let below = λ (x : ℕ) (n : Member x set). ltb-true x (length mesh.points) (all_at (λ v. nat_lt v (length mesh.points)) all x (cell_is mesh is cell l).2 (inside x n)) in
+    let between = between_pairs 0 (length mesh.points) set c.rises (λ x n. (omega arith, below x n)) in
+    let in_one = any_by (λ corners. includes corners set) (corner_lists mesh) all (member_at (corner_lists mesh) cell [] l) (includes_by all set inside) in
+    is_element mesh kind size h set c.size_is between in_one
+
 -- the table of the choices from all rows is that of the elements
 pub table_is : (mesh : MeshLists) → IsMesh (length mesh.points) (corner_lists mesh) → (rows : List (List ℕ)) → AreRows mesh rows → (kind : Kind) (size : ℕ)
     → HasCorners kind size → (table : List (List ℕ)) → IsTableOf (flat_map (choices size) rows) table → table ≡ elements mesh kind
@@ -303,9 +314,4 @@ table_is mesh is rows are kind size h table t = same_table (flat_map (choices si
       let l : p.0 < count mesh Cell = omega (arith, are.long, p.1) in
       let r = are.row p.0 l in
       let c = choice_is size (get_or rows p.0 []) set r.rises (subst (λ row. Member set (choices size row)) (sym p.2) f.2) in
-      let cs = corners mesh Cell p.0 in
-      let inside = λ (x : ℕ) (n : Member x set). r.out x (c.inside x n) in
-      let below = λ (x : ℕ) (n : Member x set). ltb-true x (length mesh.points) (all_at (λ v. nat_lt v (length mesh.points)) cs x (cell_is mesh is p.0 l).2 (inside x n)) in
-      let between = between_pairs 0 (length mesh.points) set c.rises (λ x n. (omega arith, below x n)) in
-      let in_one = any_by (λ corners. includes corners set) (corner_lists mesh) cs (member_at (corner_lists mesh) p.0 [] l) (includes_by cs set inside) in
-      is_element mesh kind size h set c.size_is between in_one
+      in_cell mesh is p.0 l kind size h (get_or rows p.0 []) set c r.out

@@ -80,16 +80,20 @@ turned_more rows count id mid new so added = record { long = added.long ∙ so.l
       let last : filter p (numbers 0 (id + 1)) ≡ filter p (numbers 0 id) ++ cond (p id) (id ∷ []) [] = ap (λ xs. filter p xs) (one_more id) ∙ filter-append p (numbers 0 id) (id ∷ []) in
       added.at y (omega (arith, so.long)) ∙ (ap (λ xs. xs ++ cond (p id) (id ∷ []) []) (so.at y l) ∙ sym last)
 
+-- the lists of rows turned round
+pub turned_long : (rows : List (List ℕ)) (count : ℕ) → length (turned rows count) ≡ count
+turned_long rows count = length-map (numbers 0 count) (λ y. filter (λ x. is_in (get_or rows x []) y) (numbers 0 (length rows))) ∙ long_numbers count
+
+pub turned_at : (rows : List (List ℕ)) (count y : ℕ) → y < count → get_or (turned rows count) y [] ≡ filter (λ x. is_in (get_or rows x []) y) (numbers 0 (length rows))
+turned_at rows count y l =
+    let g = λ (y : ℕ). filter (λ x. is_in (get_or rows x []) y) (numbers 0 (length rows)) in
+    let n : y < length (numbers 0 count) = omega (arith, long_numbers count) in
+    get_or-map g (numbers 0 count) y 0 [] n ∙ ap g (at_numbers count y 0 l)
+
 -- all rows
 pub turned_all : (rows : List (List ℕ)) (count id : ℕ) (lists : List (List ℕ)) → id ≡ length rows → IsTurnedSoFar rows count id lists → lists ≡ turned rows count
-turned_all rows count id lists e so = ext_get_or [] lists (turned rows count) (so.long ∙ sym long) same where
-  long : length (turned rows count) ≡ count
-  long = length-map (numbers 0 count) (λ y. filter (λ x. is_in (get_or rows x []) y) (numbers 0 (length rows))) ∙ long_numbers count
-
+turned_all rows count id lists e so = ext_get_or [] lists (turned rows count) (so.long ∙ sym (turned_long rows count)) same where
   same : (y : ℕ) → y < length lists → get_or lists y [] ≡ get_or (turned rows count) y []
   same y l =
       let m : y < count = omega (arith, so.long) in
-      let n : y < length (numbers 0 count) = omega (arith, long_numbers count) in
-      let g = λ (y : ℕ). filter (λ x. is_in (get_or rows x []) y) (numbers 0 (length rows)) in
-      let at = get_or-map g (numbers 0 count) y 0 [] n ∙ ap g (at_numbers count y 0 m) in
-      so.at y m ∙ (ap (λ k. filter (λ x. is_in (get_or rows x []) y) (numbers 0 k)) e ∙ sym at)
+      so.at y m ∙ (ap (λ k. filter (λ x. is_in (get_or rows x []) y) (numbers 0 k)) e ∙ sym (turned_at rows count y m))

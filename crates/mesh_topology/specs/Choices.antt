@@ -23,6 +23,11 @@ pub record IsTableOf (sets table : List (List ℕ)) : Type 0 where
   pub ordered : AllPairs (λ x y. slice_cmp nat_cmp x y ≡ Less) table
   pub members : (set : List ℕ) → Contains table set ↔ Contains sets set
 
+-- a table whose places are numbers of 32 bits
+pub record IsSmallTable (table : List (List ℕ)) : Type 0 where
+  pub few : length table < 2 ^ 32
+  pub ordered : AllPairs (λ x y. slice_cmp nat_cmp x y ≡ Less) table
+
 -- the corners of a cell in ascending order
 pub record IsAscending (cell : RawCell) (row : List ℕ) : Type 0 where
   pub ascends : IsNonDecreasing row
@@ -36,13 +41,6 @@ pub record AreRanks (table sets : List (List ℕ)) (ids : List ℕ) : Type 0 whe
 -- all choices of so many of these corners stand in a table
 abbrev pub HasChoices : ℕ → List (List ℕ) → List ℕ → Type 0
 HasChoices size table corners = (set : List ℕ) → Contains (choices size corners) set → Contains table set
-
--- what the tables of a mesh keep
-pub record AreTables (mesh : MeshLists) (edges faces : List (List ℕ)) : Type 0 where
-  pub is : IsMesh (length mesh.points) (corner_lists mesh)
-  pub fits : (kind : Kind) → count mesh kind < 2 ^ 32
-  pub edges_are : edges ≡ elements mesh Edge
-  pub faces_are : faces ≡ elements mesh Face
 
 -- the first of these sets stand in a table at these places
 pub record AreRanksSoFar (table sets : List (List ℕ)) (done : ℕ) (ids : List ℕ) : Type 0 where

@@ -2,3 +2,4 @@ pub mod Choices
 pub mod Elements
 pub mod Incidence
 pub mod Meshes
+pub mod Tables

@@ -1,11 +1,8 @@
 //! The pairs and triples of corners, and tables of them.
 
-ghost use Rattle.std.specs.Prelude.{◌≡◌, ◌≢◌, ℕ, ◌<◌, ◌^◌, List, [], length, slice_index_or, IfSome, IfNone};
-ghost use Rattle.std.specs.Cmp.Lexicographic.{slice_cmp};
-ghost use Rattle.std.specs.List.{AllPairs, Contains};
-ghost use Rattle.std.specs.Ordering.{nat_cmp};
-ghost use Rattle.std.specs.declared.cmp.Ordering.TheVariants.{Less};
-ghost use Rattle.mesh_topology.specs.Choices.{choices, AreRanks, IsTableOf};
+ghost use Rattle.std.specs.Prelude.{◌≡◌, ◌≢◌, ℕ, ◌<◌, List, [], length, slice_index_or, IfSome, IfNone};
+ghost use Rattle.std.specs.List.{Contains};
+ghost use Rattle.mesh_topology.specs.Choices.{choices, AreRanks, IsSmallTable, IsTableOf};
 
 /// The six pairs of four corners, each in their order.
 pub fn pairs_of_four(corners: [u32; 4]) -> [[u32; 2]; 6]
@@ -41,8 +38,7 @@ pub fn make_table<const N: usize>(sets: &mut Vec<[u32; N]>)
 
 /// Where a set of corners stands in a table.
 pub fn place<const N: usize>(table: &[[u32; N]], set: &[u32; N]) -> Option<u32>
-    requires few { length table.now < 2 ^ 32 }
-    requires ordered { AllPairs (λ x y. slice_cmp nat_cmp x y ≡ Less) table.now }
+    requires { IsSmallTable table.now }
     ensures found { IfSome result (λ id. (id < length table.now) × (slice_index_or table.now id [] ≡ set.now)) }
     ensures none { IfNone result ((id : ℕ) → id < length table.now → slice_index_or table.now id [] ≢ set.now) }
 {
@@ -54,8 +50,7 @@ pub fn place<const N: usize>(table: &[[u32; N]], set: &[u32; N]) -> Option<u32>
 
 /// The place of a set that stands in a table.
 fn rank<const N: usize>(table: &[[u32; N]], set: &[u32; N]) -> u32
-    requires few { length table.now < 2 ^ 32 }
-    requires ordered { AllPairs (λ x y. slice_cmp nat_cmp x y ≡ Less) table.now }
+    requires table { IsSmallTable table.now }
     requires inside { Contains table.now set.now }
     ensures below { result < length table.now }
     ensures stands { slice_index_or table.now result [] ≡ set.now }
@@ -68,8 +63,7 @@ fn rank<const N: usize>(table: &[[u32; N]], set: &[u32; N]) -> u32
 
 /// The places of sets that stand in a table.
 pub fn ranks<const N: usize, const L: usize>(table: &[[u32; N]], sets: &[[u32; N]; L]) -> [u32; L]
-    requires few { length table.now < 2 ^ 32 }
-    requires ordered { AllPairs (λ x y. slice_cmp nat_cmp x y ≡ Less) table.now }
+    requires table { IsSmallTable table.now }
     requires inside { (set : List ℕ) → Contains sets.now set → Contains table.now set }
     ensures { AreRanks table.now sets.now result }
 {

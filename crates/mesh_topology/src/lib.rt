@@ -6,7 +6,9 @@ mod cases;
 mod corner_sets;
 mod incidence;
 pub mod laws;
+mod lower;
 mod mesh;
 mod tables;
+mod upper;
 
 pub use mesh::Mesh;

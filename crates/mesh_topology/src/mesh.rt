@@ -7,7 +7,8 @@ ghost use Rattle.liszt_base.specs.declared.elements.Kind.TheVariants.{Vertex, Ed
 ghost use Rattle.mesh_topology.specs.Elements.{corner_lists, count, corners, id_of_corners};
 
 use crate::corner_sets::place;
-use crate::tables::{cell_vertices, edges, faces};
+use crate::lower::{Lower, build_lower};
+use crate::upper::{Upper, build_upper};
 use liszt_base::{Kind, NoMemory, Point, RawMesh};
 use std::alloc::Global;
 use std::marker::Model;
@@ -16,19 +17,19 @@ use std::marker::Model;
 #[derive(Drop)]
 pub struct Mesh {
     raw: RawMesh,
-    edges: Vec<[u32; 2]>,
-    faces: Vec<[u32; 3]>,
+    lower: Lower,
+    upper: Upper,
 }
 
 impl Model for Mesh {
     ghost use Rattle.liszt_base.specs.MeshLists.{MeshLists};
-    ghost use Rattle.mesh_topology.specs.Choices.{AreTables};
+    ghost use Rattle.mesh_topology.specs.Tables.{HasTables};
 
     ghost Value = { MeshLists };
 
     ghost view = { λ m. m.raw };
 
-    ghost invariant = { λ m. AreTables m.raw m.edges.items m.faces.items };
+    ghost invariant = { λ m. HasTables m.raw m.lower m.upper };
 }
 
 impl Mesh {
@@ -38,10 +39,9 @@ impl Mesh {
         requires fits { (kind : KindOf) → count raw kind < 2 ^ 32 }
         ensures { IfOk result (λ mesh. mesh ≡ raw) }
     {
-        let rows = cell_vertices(alloc, raw.cells())?;
-        let edges = edges(alloc, rows.as_slice())?;
-        let faces = faces(alloc, rows.as_slice())?;
-        Ok(Mesh { raw, edges, faces })
+        let lower = build_lower(alloc, &raw)?;
+        let upper = build_upper(alloc, &raw, &lower)?;
+        Ok(Mesh { raw, lower, upper })
     }
 
     /// How many elements of a kind there are.
@@ -50,8 +50,8 @@ impl Mesh {
     {
         match kind {
             Kind::Vertex => self.raw.points().len() as u32,
-            Kind::Edge => self.edges.len() as u32,
-            Kind::Face => self.faces.len() as u32,
+            Kind::Edge => self.lower.sets.edges.len() as u32,
+            Kind::Face => self.lower.sets.faces.len() as u32,
             Kind::Cell => self.raw.cells().len() as u32,
         }
     }
@@ -61,7 +61,7 @@ impl Mesh {
         requires { e < count self.now Edge }
         ensures { corners self.now Edge e ≡ result.0 ∷ result.1 ∷ [] }
     {
-        let [a, b] = self.edges[e as usize];
+        let [a, b] = self.lower.sets.edges[e as usize];
         (a, b)
     }
 
@@ -70,7 +70,7 @@ impl Mesh {
         requires { f < count self.now Face }
         ensures { result ≡ corners self.now Face f }
     {
-        self.faces[f as usize]
+        self.lower.sets.faces[f as usize]
     }
 
     /// The four corners of a cell, in the order of its line.
@@ -88,7 +88,7 @@ impl Mesh {
         ensures { result ≡ id_of_corners self.now Edge (a ∷ b ∷ []) }
     {
         let ends = if a < b { [a, b] } else { [b, a] };
-        place(self.edges.as_slice(), &ends)
+        place(self.lower.sets.edges.as_slice(), &ends)
     }
 
     /// A vertex's point.

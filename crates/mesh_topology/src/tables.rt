@@ -1,12 +1,9 @@
 //! The tables of a mesh.
 
-ghost use Rattle.std.specs.Prelude.{◌≡◌, ◌<◌, ◌^◌, IfOk, length};
-ghost use Rattle.std.specs.Cmp.Lexicographic.{slice_cmp};
-ghost use Rattle.std.specs.List.{All, AllPairs, AllZip, flat_map};
+ghost use Rattle.std.specs.Prelude.{IfOk};
+ghost use Rattle.std.specs.List.{All, AllZip, flat_map};
 ghost use Rattle.std.specs.List.Sorted.{IsNonDecreasing, IsPermutation};
-ghost use Rattle.std.specs.Ordering.{nat_cmp};
-ghost use Rattle.std.specs.declared.cmp.Ordering.TheVariants.{Less};
-ghost use Rattle.mesh_topology.specs.Choices.{choices, AreRanks, HasChoices, IsAscending, IsTableOf};
+ghost use Rattle.mesh_topology.specs.Choices.{choices, AreRanks, HasChoices, IsAscending, IsSmallTable, IsTableOf};
 
 use crate::corner_sets::{make_table, pairs_of_four, pairs_of_three, ranks, triples_of_four};
 use liszt_base::{NoMemory, RawCell};
@@ -59,8 +56,7 @@ pub fn faces(alloc: Global, cells: &[[u32; 4]]) -> Result<Vec<[u32; 3]>, NoMemor
 
 /// The edges of each face.
 pub fn face_edges(alloc: Global, edges: &[[u32; 2]], faces: &[[u32; 3]]) -> Result<Vec<[u32; 3]>, NoMemory>
-    requires few { length edges.now < 2 ^ 32 }
-    requires ordered { AllPairs (λ x y. slice_cmp nat_cmp x y ≡ Less) edges.now }
+    requires table { IsSmallTable edges.now }
     requires inside { All (HasChoices 2 edges.now) faces.now }
     ensures { IfOk result (λ rows. AllZip (λ corners ids. AreRanks edges.now (choices 2 corners) ids) faces.now rows.items) }
 {
@@ -73,8 +69,7 @@ pub fn face_edges(alloc: Global, edges: &[[u32; 2]], faces: &[[u32; 3]]) -> Resu
 
 /// The edges of each cell.
 pub fn cell_edges(alloc: Global, edges: &[[u32; 2]], cells: &[[u32; 4]]) -> Result<Vec<[u32; 6]>, NoMemory>
-    requires few { length edges.now < 2 ^ 32 }
-    requires ordered { AllPairs (λ x y. slice_cmp nat_cmp x y ≡ Less) edges.now }
+    requires table { IsSmallTable edges.now }
     requires inside { All (HasChoices 2 edges.now) cells.now }
     ensures { IfOk result (λ rows. AllZip (λ corners ids. AreRanks edges.now (choices 2 corners) ids) cells.now rows.items) }
 {
@@ -87,8 +82,7 @@ pub fn cell_edges(alloc: Global, edges: &[[u32; 2]], cells: &[[u32; 4]]) -> Resu
 
 /// The faces of each cell.
 pub fn cell_faces(alloc: Global, faces: &[[u32; 3]], cells: &[[u32; 4]]) -> Result<Vec<[u32; 4]>, NoMemory>
-    requires few { length faces.now < 2 ^ 32 }
-    requires ordered { AllPairs (λ x y. slice_cmp nat_cmp x y ≡ Less) faces.now }
+    requires table { IsSmallTable faces.now }
     requires inside { All (HasChoices 3 faces.now) cells.now }
     ensures { IfOk result (λ rows. AllZip (λ corners ids. AreRanks faces.now (choices 3 corners) ids) cells.now rows.items) }
 {

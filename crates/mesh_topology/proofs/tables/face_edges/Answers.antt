@@ -7,7 +7,7 @@ pub ranks-requires : goal.ranks-requires
 ranks-requires c =
     let s = c.requires in
     let inside = λ (set : List ℕ) (h : Contains c.pairs_of_three.result set). s.inside c.loop-corners.corners-index [] c.loop-corners-test.true set (subst (λ sets. Contains sets set) c.pairs_of_three.ensures h) in
-    (omega arith, (omega arith, (omega arith, (s.few, (s.ordered, inside)))))
+    (omega arith, (omega arith, (omega arith, (s.table, inside))))
 
 pub loop-corners-preserved : goal.loop-corners-preserved
 loop-corners-preserved c =

@@ -2,7 +2,7 @@ use Rattle.std.proofs.Common.{◌≡◌, ◌^◌, ◌<◌, length, AllPairs, ap,
 use Rattle.liszt_base.specs.declared.elements.Kind.TheVariants.{Edge}
 use Rattle.mesh_topology.specs.Elements.{elements}
 use Rattle.mesh_topology.proofs.Rising.{Before}
-use Rattle.mesh_topology.proofs.Ranked.{ordered}
+use Rattle.mesh_topology.proofs.Kept.{small_table}
 use Rattle.mesh_topology.proofs.Found.{number_by, same_order, other_order}
 use Rattle.mesh_topology.proofs.mesh.Mesh.edge_number.Goals as goal
 use Rattle.mesh_topology.proofs.mesh.Mesh.edge_number.Goals.{then-a-b, else-a-b}
@@ -10,15 +10,13 @@ use Rattle.mesh_topology.proofs.mesh.Mesh.edge_number.Goals.{then-a-b, else-a-b}
 pub place-requires : goal.place-requires
 place-requires c =
     let mesh = c.self.inside.raw in
-    let e : c.as_slice.result.now ≡ elements mesh Edge = c.as_slice.ensures.value ∙ c.self.invariant.edges_are in
-    let few = subst (λ t. length t < 2 ^ 32) (sym e) (c.self.invariant.fits Edge) in
-    (omega arith, (few, subst (λ t. AllPairs Before t) (sym e) (ordered mesh Edge 2 refl)))
+    (omega arith, small_table mesh c.self.invariant.small Edge 2 refl c.as_slice.result.now (c.as_slice.ensures.value ∙ c.self.invariant.lower_is.sets.edges))
 
 pub returns : goal.returns
 returns c =
     let mesh = c.args.self.now in
     let table = c.as_slice.result.now in
-    let e : table ≡ elements mesh Edge = c.as_slice.ensures.value ∙ (c.self.invariant.edges_are ∙ ap (λ m. elements m Edge) c.self.view_is) in
+    let e : table ≡ elements mesh Edge = c.as_slice.ensures.value ∙ (c.self.invariant.lower_is.sets.edges ∙ ap (λ m. elements m Edge) c.self.view_is) in
     let a = c.args.a in
     let b = c.args.b in
     elim c.if-a-b.branch [
