@@ -1,6 +1,6 @@
 -- The tables of a mesh are those of the definitions, as they are built.
-use Rattle.std.proofs.Common.{◌≡◌, ℕ, ◌<◌, ◌^◌, List, length, flat_map, refl, sym, ap, subst, ◌∙◌}
-use Rattle.std.specs.List.{All, AllZip}
+use Rattle.std.proofs.Common.{◌≡◌, ℕ, List, length, flat_map, sym, subst}
+use Rattle.std.specs.List.{AllZip}
 use Rattle.liszt_base.specs.Corners.{IsMesh}
 use Rattle.liszt_base.specs.MeshLists.{MeshLists}
 use Rattle.liszt_base.specs.declared.elements.Kind.{Kind}

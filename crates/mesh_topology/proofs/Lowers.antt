@@ -1,21 +1,21 @@
 -- The tables of what lies in each element are those of the definitions.
-use Rattle.std.proofs.Common.{◌≡◌, ℕ, ◌<◌, ◌≤◌, Bool, true, List, [], ◌∷◌, map, length, get_or, AllPairs, Contains, refl, sym, ap, subst, ◌∙◌, arith, ltb-true, nat_lt}
+use Rattle.std.proofs.Common.{◌≡◌, ℕ, ◌<◌, ◌≤◌, true, List, [], length, get_or, refl, sym, ap, subst, ◌∙◌, arith, ltb-true, nat_lt}
 use Rattle.std.specs.List.{All, AllZip}
 use Rattle.std.proofs.lemmas.List.{ext_get_or, get_or-map, get_or_default, length-map}
 use Rattle.liszt_base.specs.Corners.{includes, are_different, IsMesh}
 use Rattle.liszt_base.specs.MeshLists.{MeshLists}
 use Rattle.liszt_base.specs.declared.elements.Kind.{Kind}
 use Rattle.liszt_base.specs.declared.elements.Kind.TheVariants.{Vertex, Edge, Face, Cell}
-use Rattle.mesh_topology.specs.Choices.{choices, AreRanks, HasChoices}
+use Rattle.mesh_topology.specs.Choices.{choices, AreRanks, HasChoices, IsAscending}
 use Rattle.mesh_topology.specs.Elements.{numbers, corner_lists, elements, count, corners, one_includes_other, is_incident, near, HasCorners}
 use Rattle.mesh_topology.specs.Tables.{near_all}
 use Rattle.mesh_topology.proofs.Sets.{Member, all_at, any_found, member_at, member_contained, contained_member, included, includes_by}
 use Rattle.mesh_topology.proofs.Ranked.{element_is}
 use Rattle.mesh_topology.proofs.Sides.{same_test}
 use Rattle.mesh_topology.proofs.FaceEdges.{placed}
-use Rattle.mesh_topology.proofs.Chosen.{Rises, IsChoice, choice_is}
+use Rattle.mesh_topology.proofs.Chosen.{Rises, choice_is}
 use Rattle.mesh_topology.proofs.Listed.{zip_at, zip_long}
-use Rattle.mesh_topology.proofs.Near.{long_numbers, at_numbers, more_left, rising_is, cell_is, ranks_kept, vertices_kept, AreRows, in_cell}
+use Rattle.mesh_topology.proofs.Near.{long_numbers, at_numbers, more_left, rising_is, cell_is, ranks_kept, vertices_kept, AreRows, are_rows, in_cell}
 
 -- NEAR LISTS OF ALL ELEMENTS
 
@@ -59,6 +59,10 @@ cell_vertices mesh is rows are = near_all_is mesh Cell Vertex rows are.long at w
       let c = cell_is mesh is id l in
       let r = are.row id l in
       vertices_kept mesh (corners mesh Cell id) (get_or rows id []) c.1 (omega (arith, c.0)) (λ x m. ltb-true x (length mesh.points) (all_at (λ v. nat_lt v (length mesh.points)) (corners mesh Cell id) x c.2 m)) r.rises r.out r.back (is_incident mesh Cell id Vertex) (λ v k. refl)
+
+-- from the table of these
+pub row_vertices : (mesh : MeshLists) → IsMesh (length mesh.points) (corner_lists mesh) → (rows : List (List ℕ)) → AllZip IsAscending mesh.cells rows → rows ≡ near_all mesh Cell Vertex
+row_vertices mesh is rows all = cell_vertices mesh is rows (are_rows mesh is rows all)
 
 -- EDGES AND FACES
 

@@ -10,6 +10,7 @@ use Rattle.std.proofs.lemmas.List.{get_or-map, length-map}
 use Rattle.liszt_base.specs.Corners.{includes, are_different, IsCell, IsMesh}
 use Rattle.liszt_base.specs.MeshLists.{MeshLists}
 use Rattle.liszt_base.specs.declared.elements.Kind.{Kind}
+use Rattle.liszt_base.specs.declared.mesh.Point.{Point}
 use Rattle.liszt_base.specs.declared.elements.Kind.TheVariants.{Vertex, Cell}
 use Rattle.mesh_topology.specs.Elements.{sets_of, numbers, corner_lists, elements, count, corners, one_includes_other, HasCorners}
 use Rattle.mesh_topology.specs.Choices.{choices, AreRanks, IsAscending, IsTableOf}
@@ -90,6 +91,10 @@ at_numbers n k d l = at_range 0 (n - 0) k d (omega arith) ∙ omega arith
 
 pub vertex_count : (mesh : MeshLists) → count mesh Vertex ≡ length mesh.points
 vertex_count mesh = ap (λ xs. length xs) (singles (length mesh.points)) ∙ (length-map (numbers 0 (length mesh.points)) (λ v. v ∷ []) ∙ long_numbers (length mesh.points))
+
+-- there are as many as points
+pub vertices_are : (mesh : MeshLists) (points : List Point) → points ≡ mesh.points → length points ≡ count mesh Vertex
+vertices_are mesh points e = ap (λ ps. length ps) e ∙ sym (vertex_count mesh)
 
 pub vertex_is : (mesh : MeshLists) (v : ℕ) → v < length mesh.points → corners mesh Vertex v ≡ v ∷ []
 vertex_is mesh v l =

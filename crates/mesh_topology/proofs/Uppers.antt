@@ -1,14 +1,15 @@
 -- The tables of what each element lies in, and of what lies beside it, are those of the definitions.
-use Rattle.std.proofs.Common.{◌≡◌, ◌⊎◌, ℕ, ◌<◌, ◌^◌, ◌==◌, ◌&&◌, ◌||◌, not, Bool, true, false, List, [], ◌∷◌, length, get_or, filter, flat_map, AllPairs, Contains, refl, sym, ap, subst, ◌∙◌, inl, inr, arith, eqb-true, eq-eqb}
+use Rattle.std.proofs.Common.{◌≡◌, ℕ, ◌<◌, ◌^◌, ◌==◌, ◌&&◌, ◌||◌, not, Bool, true, false, List, [], length, get_or, filter, AllPairs, refl, sym, ap, subst, ◌∙◌, eqb-true, eq-eqb}
 use Rattle.std.specs.List.{All, list_any}
 use Rattle.std.proofs.lemmas.Bool.{and_parts, and_from, false_from_ne_true, not-true, not_from_false, both_ways}
 use Rattle.std.proofs.lemmas.List.{get_or_default}
 use Rattle.liszt_base.specs.Corners.{is_in, includes}
 use Rattle.liszt_base.specs.MeshLists.{MeshLists}
 use Rattle.liszt_base.specs.declared.elements.Kind.{Kind}
+use Rattle.liszt_base.specs.declared.elements.Kind.TheVariants.{Vertex, Edge, Face, Cell}
 use Rattle.mesh_topology.specs.Elements.{numbers, elements, count, corners, one_includes_other, share, is_incident, near}
-use Rattle.mesh_topology.specs.Incidence.{turned, is_other, others_on, AreBeside, IsSetOf}
-use Rattle.mesh_topology.specs.Tables.{near_all}
+use Rattle.mesh_topology.specs.Incidence.{turned, is_other, others_on, AreBeside, CanJoin, CanTurn, IsSetOf}
+use Rattle.mesh_topology.specs.Tables.{near_all, IsSmallMesh}
 use Rattle.mesh_topology.proofs.Sets.{Member, in_member, member_in, any_found, any_by, member_at, member_contained, contained_member, member_flat, member_flattened, member_kept, member_of_kept}
 use Rattle.mesh_topology.proofs.Rising.{all_pairs, pairs_of}
 use Rattle.mesh_topology.proofs.FaceEdges.{placed}
@@ -136,3 +137,46 @@ beside_near mesh kind by up down test through back all n e f g are = near_all_is
         let kept = member_kept (is_other x) (get_or back b []) y second (is_other_by x y (same_not x y parts.0)) in
         let flat = member_flat (λ by. filter (is_other x) (get_or back by [])) (get_or through x []) b y first kept in
         member_contained (get_or all x []) y ((s.members y).1 (contained_member (others_on x back (get_or through x [])) y flat))
+
+-- WHAT THE CALLS THAT BUILD THEM ASK AND GIVE
+
+pub can_turn : (mesh : MeshLists) → IsSmallMesh mesh → (kind out : Kind) (rows : List (List ℕ)) (n : ℕ) → rows ≡ near_all mesh kind out → n ≡ count mesh out → CanTurn rows n
+can_turn mesh small kind out rows n e f = record {
+  few = subst (λ c. c < 2 ^ 32) (sym (ap (λ t. length t) e ∙ near_all_long mesh kind out)) (small.fits kind);
+  below = rows_below mesh kind out rows n e f;
+  rises = rows_rise mesh kind out rows e;
+}
+
+pub can_join : (mesh : MeshLists) → IsSmallMesh mesh → (kind by : Kind) (through back : List (List ℕ)) → through ≡ near_all mesh kind by → back ≡ near_all mesh by kind → CanJoin through (length back)
+can_join mesh small kind by through back e f = record {
+  few = subst (λ c. c < 2 ^ 32) (sym (ap (λ t. length t) e ∙ near_all_long mesh kind by)) (small.fits kind);
+  below = rows_below mesh kind by through (length back) e (ap (λ t. length t) f ∙ near_all_long mesh by kind);
+}
+
+-- elements of different kinds lie in each other the same from either side
+pub either_edge_vertex : (mesh : MeshLists) (x y : ℕ) → is_incident mesh Edge x Vertex y ≡ is_incident mesh Vertex y Edge x
+either_edge_vertex mesh x y = either (corners mesh Edge x) (corners mesh Vertex y)
+
+pub either_face_vertex : (mesh : MeshLists) (x y : ℕ) → is_incident mesh Face x Vertex y ≡ is_incident mesh Vertex y Face x
+either_face_vertex mesh x y = either (corners mesh Face x) (corners mesh Vertex y)
+
+pub either_cell_vertex : (mesh : MeshLists) (x y : ℕ) → is_incident mesh Cell x Vertex y ≡ is_incident mesh Vertex y Cell x
+either_cell_vertex mesh x y = either (corners mesh Cell x) (corners mesh Vertex y)
+
+pub either_face_edge : (mesh : MeshLists) (x y : ℕ) → is_incident mesh Face x Edge y ≡ is_incident mesh Edge y Face x
+either_face_edge mesh x y = either (corners mesh Face x) (corners mesh Edge y)
+
+pub either_cell_edge : (mesh : MeshLists) (x y : ℕ) → is_incident mesh Cell x Edge y ≡ is_incident mesh Edge y Cell x
+either_cell_edge mesh x y = either (corners mesh Cell x) (corners mesh Edge y)
+
+pub either_cell_face : (mesh : MeshLists) (x y : ℕ) → is_incident mesh Cell x Face y ≡ is_incident mesh Face y Cell x
+either_cell_face mesh x y = either (corners mesh Cell x) (corners mesh Face y)
+
+-- the vertices beside vertices, and the cells beside cells
+pub vertices_beside : (mesh : MeshLists) (through back all : List (List ℕ)) → through ≡ near_all mesh Vertex Edge → back ≡ near_all mesh Edge Vertex
+    → AreBeside through back (length through) all → all ≡ near_all mesh Vertex Vertex
+vertices_beside mesh through back all e f are = beside_near mesh Vertex Edge (λ x y. refl) (λ x y. refl) (λ x y. refl) through back all (length through) e f refl are
+
+pub cells_beside : (mesh : MeshLists) (through back all : List (List ℕ)) → through ≡ near_all mesh Cell Face → back ≡ near_all mesh Face Cell
+    → AreBeside through back (length through) all → all ≡ near_all mesh Cell Cell
+cells_beside mesh through back all e f are = beside_near mesh Cell Face (λ x y. refl) (λ x y. refl) (λ x y. refl) through back all (length through) e f refl are

@@ -5,12 +5,7 @@ use Rattle.std.specs.List.{AllPairs, Contains}
 use Rattle.std.specs.List.Sorted.{IsNonDecreasing, IsPermutation}
 use Rattle.std.specs.Ordering.{nat_cmp}
 use Rattle.std.specs.declared.cmp.Ordering.TheVariants.{Less}
-use Rattle.liszt_base.specs.Corners.{IsMesh}
-use Rattle.liszt_base.specs.MeshLists.{MeshLists}
-use Rattle.liszt_base.specs.declared.elements.Kind.{Kind}
-use Rattle.liszt_base.specs.declared.elements.Kind.TheVariants.{Edge, Face}
 use Rattle.liszt_base.specs.declared.mesh.RawCell.{RawCell}
-use Rattle.mesh_topology.specs.Elements.{corner_lists, elements, count}
 
 -- all lists of so many members of a list, each in the order of the list
 abbrev pub choices : ℕ → List ℕ → List (List ℕ)

@@ -1,8 +1,8 @@
 //! Lists of ids for each element, turned round and joined.
 
-ghost use Rattle.std.specs.Prelude.{◌≡◌, ◌<◌, ◌^◌, ◌++◌, [], IfOk, OnOk, length, replicate};
+ghost use Rattle.std.specs.Prelude.{◌≡◌, ◌<◌, ◌++◌, [], IfOk, OnOk, length, replicate};
 ghost use Rattle.std.specs.List.{All, AllPairs, filter};
-ghost use Rattle.mesh_topology.specs.Incidence.{turned, is_other, others_on, AreBeside, IsAdded, IsSetOf};
+ghost use Rattle.mesh_topology.specs.Incidence.{turned, is_other, others_on, AreBeside, CanJoin, CanTurn, IsAdded, IsSetOf};
 
 use liszt_base::{NoMemory, PlainList, PlainLists};
 use std::alloc::Global;
@@ -43,9 +43,7 @@ fn flattened(alloc: Global, lists: &[PlainList<u32>]) -> Result<PlainLists<u32>,
 
 /// For each of so many ids the places of the rows that have it, ascending.
 pub fn turn<const N: usize>(alloc: Global, rows: &[[u32; N]], count: u32) -> Result<PlainLists<u32>, NoMemory>
-    requires few { length rows.now < 2 ^ 32 }
-    requires below { All (All (λ y. y < count)) rows.now }
-    requires rises { All (AllPairs (λ x y. x < y)) rows.now }
+    requires { CanTurn rows.now count }
     ensures { IfOk result (λ lists. lists ≡ turned rows.now count) }
 {
     let mut lists = empty_lists(alloc, count)?;
@@ -101,8 +99,7 @@ fn beside(alloc: Global, id: u32, through: &[u32], back: &PlainLists<u32>) -> Re
 
 /// For each id those on the lists of its list, but itself.
 pub fn all_beside(alloc: Global, through: &PlainLists<u32>, back: &PlainLists<u32>) -> Result<PlainLists<u32>, NoMemory>
-    requires few { length through.now < 2 ^ 32 }
-    requires below { All (All (λ by. by < length back.now)) through.now }
+    requires { CanJoin through.now (length back.now) }
     ensures { IfOk result (AreBeside through.now back.now (length through.now)) }
 {
     let mut all = PlainLists::new(alloc);

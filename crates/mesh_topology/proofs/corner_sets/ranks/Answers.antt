@@ -1,4 +1,4 @@
-use Rattle.std.proofs.Common.{◌<◌, ◌≤◌, length, arith, rules}
+use Rattle.std.proofs.Common.{◌<◌, ◌≤◌, length, arith}
 use Rattle.mesh_topology.proofs.Found.{ranks_more, ranks_all}
 use Rattle.mesh_topology.proofs.corner_sets.ranks.Goals as goal
 

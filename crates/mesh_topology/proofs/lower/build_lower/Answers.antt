@@ -1,4 +1,4 @@
-use Rattle.std.proofs.Common.{refl, subst, sym, ◌∙◌, arith}
+use Rattle.std.proofs.Common.{refl, ◌∙◌, arith}
 use Rattle.liszt_base.specs.declared.elements.Kind.TheVariants.{Edge, Face}
 use Rattle.mesh_topology.proofs.Kept.{small_table, table_rows}
 use Rattle.mesh_topology.proofs.Lowers.{face_has, cell_has, face_edges, cell_ranks}

@@ -1,7 +1,6 @@
-use Rattle.std.proofs.Common.{◌≡◌, ◌^◌, ◌<◌, length, AllPairs, ap, sym, subst, ◌∙◌, refl, arith}
+use Rattle.std.proofs.Common.{◌≡◌, ap, ◌∙◌, refl, arith}
 use Rattle.liszt_base.specs.declared.elements.Kind.TheVariants.{Edge}
 use Rattle.mesh_topology.specs.Elements.{elements}
-use Rattle.mesh_topology.proofs.Rising.{Before}
 use Rattle.mesh_topology.proofs.Kept.{small_table}
 use Rattle.mesh_topology.proofs.Found.{number_by, same_order, other_order}
 use Rattle.mesh_topology.proofs.mesh.Mesh.edge_number.Goals as goal
