@@ -5,6 +5,7 @@ pub mod FaceEdges
 pub mod Found
 pub mod Kept
 pub mod Listed
+pub mod Looked
 pub mod Lowers
 pub mod Near
 pub mod Ranked

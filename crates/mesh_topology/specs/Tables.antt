@@ -1,5 +1,5 @@
 -- What the tables of a mesh keep. Contracts of private functions cite these. This project's own.
-use Rattle.std.specs.Prelude.{◌≡◌, ℕ, ◌<◌, ◌^◌, List, map, length}
+use Rattle.std.specs.Prelude.{◌≡◌, ℕ, ◌<◌, ◌^◌, Bool, true, false, List, map, length}
 use Rattle.std.specs.List.{AllZip}
 use Rattle.liszt_base.specs.Corners.{IsMesh}
 use Rattle.liszt_base.specs.MeshLists.{MeshLists}
@@ -49,3 +49,9 @@ pub record HasTables (mesh : MeshLists) (lower : Lower) (upper : Upper) : Type 0
   pub small : IsSmallMesh mesh
   pub lower_is : IsLower mesh lower
   pub upper_is : IsUpper mesh upper
+
+-- the pairs of kinds of which elements can be near each other
+abbrev pub has_near : Kind → Kind → Bool
+has_near Edge Edge = false
+has_near Face Face = false
+has_near _ _ = true

@@ -1,10 +1,12 @@
 //! A mesh with the tables of its elements.
 
-ghost use Rattle.std.specs.Prelude.{◌≡◌, ◌<◌, ◌^◌, [], ◌∷◌, IfOk, IfSome, Some, length, slice_get};
+ghost use Rattle.std.specs.Prelude.{◌≡◌, ◌<◌, ◌^◌, true, [], ◌∷◌, IfOk, IfSome, Some, length, slice_get};
+ghost use Rattle.std.specs.Option.{option_to_list};
 ghost use Rattle.liszt_base.specs.Corners.{IsMesh};
 ghost use Rattle.liszt_base.specs.declared.elements.Kind.{Kind as KindOf};
 ghost use Rattle.liszt_base.specs.declared.elements.Kind.TheVariants.{Vertex, Edge, Face, Cell};
-ghost use Rattle.mesh_topology.specs.Elements.{corner_lists, count, corners, id_of_corners};
+ghost use Rattle.mesh_topology.specs.Elements.{corner_lists, count, corners, id_of_corners, near, sides};
+ghost use Rattle.mesh_topology.specs.Tables.{has_near};
 
 use crate::corner_sets::place;
 use crate::lower::{Lower, build_lower};
@@ -105,5 +107,82 @@ impl Mesh {
         ensures { IfSome (slice_get self.now.cells c) (λ cell. cell.region ≡ result) }
     {
         self.raw.cells()[c as usize].region
+    }
+
+    /// The cells beside a face: the one with the lower number, and the other one, where there is one.
+    pub fn face_cells(&self, f: u32) -> (u32, Option<u32>)
+        requires { f < count self.now Face }
+        ensures { sides self.now f ≡ result.0 ∷ option_to_list result.1 }
+    {
+        match self.upper.face_cells.of(f as usize) {
+            [c] => (*c, None),
+            [c, d, ..] => (*c, Some(*d)),
+            [] => unreachable!(),
+        }
+    }
+
+    /// The ids of a kind near an element, ascending: of those that lie in it or in which it lies, of the vertices that
+    /// share an edge with a vertex, and of the cells that share a face with a cell.
+    pub fn near(&self, kind: Kind, id: u32, out: Kind) -> &[u32]
+        requires below { id < count self.now kind }
+        requires has { has_near kind out ≡ true }
+        ensures { result.now ≡ near self.now kind id out }
+    {
+        match kind {
+            Kind::Vertex => self.near_vertex(id, out),
+            Kind::Edge => self.near_edge(id, out),
+            Kind::Face => self.near_face(id, out),
+            Kind::Cell => self.near_cell(id, out),
+        }
+    }
+
+    fn near_vertex(&self, v: u32, out: Kind) -> &[u32]
+        requires { v < count self.now Vertex }
+        ensures { result.now ≡ near self.now Vertex v out }
+    {
+        match out {
+            Kind::Vertex => self.upper.vertex_vertices.of(v as usize),
+            Kind::Edge => self.upper.vertex_edges.of(v as usize),
+            Kind::Face => self.upper.vertex_faces.of(v as usize),
+            Kind::Cell => self.upper.vertex_cells.of(v as usize),
+        }
+    }
+
+    fn near_edge(&self, e: u32, out: Kind) -> &[u32]
+        requires below { e < count self.now Edge }
+        requires has { has_near Edge out ≡ true }
+        ensures { result.now ≡ near self.now Edge e out }
+    {
+        match out {
+            Kind::Vertex => &self.lower.sets.edges[e as usize],
+            Kind::Edge => unreachable!(),
+            Kind::Face => self.upper.edge_faces.of(e as usize),
+            Kind::Cell => self.upper.edge_cells.of(e as usize),
+        }
+    }
+
+    fn near_face(&self, f: u32, out: Kind) -> &[u32]
+        requires below { f < count self.now Face }
+        requires has { has_near Face out ≡ true }
+        ensures { result.now ≡ near self.now Face f out }
+    {
+        match out {
+            Kind::Vertex => &self.lower.sets.faces[f as usize],
+            Kind::Edge => &self.lower.face_edges[f as usize],
+            Kind::Face => unreachable!(),
+            Kind::Cell => self.upper.face_cells.of(f as usize),
+        }
+    }
+
+    fn near_cell(&self, c: u32, out: Kind) -> &[u32]
+        requires { c < count self.now Cell }
+        ensures { result.now ≡ near self.now Cell c out }
+    {
+        match out {
+            Kind::Vertex => &self.lower.sets.cells[c as usize],
+            Kind::Edge => &self.lower.cell_edges[c as usize],
+            Kind::Face => &self.lower.cell_faces[c as usize],
+            Kind::Cell => self.upper.cell_cells.of(c as usize),
+        }
     }
 }
