@@ -2,6 +2,7 @@ pub mod Besides
 pub mod Chosen
 pub mod Cycles
 pub mod FaceEdges
+pub mod Few
 pub mod Found
 pub mod Kept
 pub mod Listed

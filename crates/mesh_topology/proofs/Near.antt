@@ -298,25 +298,29 @@ in_cell mesh is cell l kind size h cs set c out =
     let in_one = any_by (λ corners. includes corners set) (corner_lists mesh) all (member_at (corner_lists mesh) cell [] l) (includes_by all set inside) in
     is_element mesh kind size h set c.size_is between in_one
 
--- the table of the choices from all rows is that of the elements
+-- each element is a choice from a row
+pub table_members : (mesh : MeshLists) → IsMesh (length mesh.points) (corner_lists mesh) → (rows : List (List ℕ)) → AreRows mesh rows → (kind : Kind) (size : ℕ)
+    → HasCorners kind size → (set : List ℕ) → Member set (elements mesh kind) → Member set (flat_map (choices size) rows)
+table_members mesh is rows are kind size h set m =
+    let e = element_is mesh kind size h set m in
+    let f = any_found (λ corners. includes corners set) (corner_lists mesh) e.2 in
+    let p = placed (corner_lists mesh) f.0 [] f.1 in
+    let r = are.row p.0 p.1 in
+    let i : includes (corners mesh Cell p.0) set ≡ true = subst (λ cs. includes cs set ≡ true) (sym p.2) f.2 in
+    let c = is_choice size (get_or rows p.0 []) set r.rises (record { size_is = e.0; rises = rising_pairs 0 (length mesh.points) set e.1; inside = λ x n. r.back x (included (corners mesh Cell p.0) set x i n) }) in
+    member_flat (choices size) rows (get_or rows p.0 []) set (member_at rows p.0 [] (omega (arith, are.long, p.1))) c
+
+-- so the table of the choices from all rows is that of the elements
 pub table_is : (mesh : MeshLists) → IsMesh (length mesh.points) (corner_lists mesh) → (rows : List (List ℕ)) → AreRows mesh rows → (kind : Kind) (size : ℕ)
     → HasCorners kind size → (table : List (List ℕ)) → IsTableOf (flat_map (choices size) rows) table → table ≡ elements mesh kind
-table_is mesh is rows are kind size h table t = same_table (flat_map (choices size) rows) table (elements mesh kind) t (ordered mesh kind size h) there back where
-  there : (set : List ℕ) → Member set (elements mesh kind) → Member set (flat_map (choices size) rows)
-  there set m =
-      let e = element_is mesh kind size h set m in
-      let f = any_found (λ corners. includes corners set) (corner_lists mesh) e.2 in
-      let p = placed (corner_lists mesh) f.0 [] f.1 in
-      let r = are.row p.0 p.1 in
-      let i : includes (corners mesh Cell p.0) set ≡ true = subst (λ cs. includes cs set ≡ true) (sym p.2) f.2 in
-      let c = is_choice size (get_or rows p.0 []) set r.rises (record { size_is = e.0; rises = rising_pairs 0 (length mesh.points) set e.1; inside = λ x n. r.back x (included (corners mesh Cell p.0) set x i n) }) in
-      member_flat (choices size) rows (get_or rows p.0 []) set (member_at rows p.0 [] (omega (arith, are.long, p.1))) c
-
-  back : (set : List ℕ) → Member set (flat_map (choices size) rows) → Member set (elements mesh kind)
-  back set m =
-      let f = member_flattened (choices size) rows set m in
-      let p = placed rows f.0 [] f.1 in
-      let l : p.0 < count mesh Cell = omega (arith, are.long, p.1) in
-      let r = are.row p.0 l in
-      let c = choice_is size (get_or rows p.0 []) set r.rises (subst (λ row. Member set (choices size row)) (sym p.2) f.2) in
-      in_cell mesh is p.0 l kind size h (get_or rows p.0 []) set c r.out
+table_is mesh is rows are kind size h table t =
+    same_table (flat_map (choices size) rows) table (elements mesh kind) t (ordered mesh kind size h) (table_members mesh is rows are kind size h) back
+  where
+    back : (set : List ℕ) → Member set (flat_map (choices size) rows) → Member set (elements mesh kind)
+    back set m =
+        let f = member_flattened (choices size) rows set m in
+        let p = placed rows f.0 [] f.1 in
+        let l : p.0 < count mesh Cell = omega (arith, are.long, p.1) in
+        let r = are.row p.0 l in
+        let c = choice_is size (get_or rows p.0 []) set r.rises (subst (λ row. Member set (choices size row)) (sym p.2) f.2) in
+        in_cell mesh is p.0 l kind size h (get_or rows p.0 []) set c r.out
