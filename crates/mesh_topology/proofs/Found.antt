@@ -54,8 +54,8 @@ none_at table set at up h id l e =
     let parts = h (searchable_from_sorted nat_list_cmp_total (λ x. x) table set (sorted_of table up)) in
     let same : slice_cmp nat_cmp (get_or table id []) set ≡ Equal = ap (λ x. slice_cmp nat_cmp x set) e ∙ cmp_itself set in
     elim (cases_lt id at) [
-    | inl m ↦ not_equal (slice_cmp nat_cmp (get_or table id []) set) same (inl (parts.0 id [] (omega arith) m))
-    | inr m ↦ not_equal (slice_cmp nat_cmp (get_or table id []) set) same (inr (parts.1 id [] m l))
+      | inl m ↦ not_equal (slice_cmp nat_cmp (get_or table id []) set) same (inl (parts.0 id [] (omega arith) m))
+      | inr m ↦ not_equal (slice_cmp nat_cmp (get_or table id []) set) same (inr (parts.1 id [] m l))
     ]
 
 -- rising pairs with the same members are one

@@ -42,7 +42,11 @@ fn flattened(alloc: Global, lists: &[PlainList<u32>]) -> Result<PlainLists<u32>,
 }
 
 /// For each of so many ids the places of the rows that have it, ascending.
-pub fn turn<const N: usize>(alloc: Global, rows: &[[u32; N]], count: u32) -> Result<PlainLists<u32>, NoMemory>
+pub fn turn<const N: usize>(
+    alloc: Global,
+    rows: &[[u32; N]],
+    count: u32,
+) -> Result<PlainLists<u32>, NoMemory>
     requires { CanTurn rows.now count }
     ensures { IfOk result (λ lists. lists ≡ turned rows.now count) }
 {
@@ -54,7 +58,10 @@ pub fn turn<const N: usize>(alloc: Global, rows: &[[u32; N]], count: u32) -> Res
 }
 
 /// The rows as lists.
-pub fn as_lists<const N: usize>(alloc: Global, rows: &[[u32; N]]) -> Result<PlainLists<u32>, NoMemory>
+pub fn as_lists<const N: usize>(
+    alloc: Global,
+    rows: &[[u32; N]],
+) -> Result<PlainLists<u32>, NoMemory>
     ensures { IfOk result (λ lists. lists ≡ rows.now) }
 {
     let mut lists = PlainLists::new(alloc);
@@ -85,7 +92,12 @@ fn add_others(others: &mut Vec<u32>, list: &[u32], id: u32) -> Result<(), NoMemo
 }
 
 /// The ids on the lists of a list, but one.
-fn beside(alloc: Global, id: u32, through: &[u32], back: &PlainLists<u32>) -> Result<Vec<u32>, NoMemory>
+fn beside(
+    alloc: Global,
+    id: u32,
+    through: &[u32],
+    back: &PlainLists<u32>,
+) -> Result<Vec<u32>, NoMemory>
     requires { All (λ by. by < length back.now) through.now }
     ensures { IfOk result (λ others. IsSetOf (others_on id back.now through.now) others.items) }
 {
@@ -98,7 +110,11 @@ fn beside(alloc: Global, id: u32, through: &[u32], back: &PlainLists<u32>) -> Re
 }
 
 /// For each id those on the lists of its list, but itself.
-pub fn all_beside(alloc: Global, through: &PlainLists<u32>, back: &PlainLists<u32>) -> Result<PlainLists<u32>, NoMemory>
+pub fn all_beside(
+    alloc: Global,
+    through: &PlainLists<u32>,
+    back: &PlainLists<u32>,
+) -> Result<PlainLists<u32>, NoMemory>
     requires { CanJoin through.now (length back.now) }
     ensures { IfOk result (AreBeside through.now back.now (length through.now)) }
 {

@@ -9,6 +9,8 @@ pub mod laws;
 mod lower;
 mod mesh;
 mod tables;
+#[cfg(test)]
+mod tests;
 mod upper;
 
 pub use mesh::Mesh;

@@ -34,28 +34,32 @@ pub fn cell_vertices(alloc: Global, cells: &[RawCell]) -> Result<Vec<[u32; 4]>, 
 pub fn edges(alloc: Global, cells: &[[u32; 4]]) -> Result<Vec<[u32; 2]>, NoMemory>
     ensures { IfOk result (λ table. IsTableOf (flat_map (choices 2) cells.now) table.items) }
 {
-    let mut table = Vec::new(alloc);
+    let mut pairs = Vec::new(alloc);
     for corners in cells {
-        table.extend_from_slice(&pairs_of_four(*corners))?;
+        pairs.extend_from_slice(&pairs_of_four(*corners))?;
     }
-    make_table(&mut table);
-    Ok(table)
+    make_table(&mut pairs);
+    Ok(pairs)
 }
 
 /// The triples of corners of cells, each once, in lexicographic order.
 pub fn faces(alloc: Global, cells: &[[u32; 4]]) -> Result<Vec<[u32; 3]>, NoMemory>
     ensures { IfOk result (λ table. IsTableOf (flat_map (choices 3) cells.now) table.items) }
 {
-    let mut table = Vec::new(alloc);
+    let mut triples = Vec::new(alloc);
     for corners in cells {
-        table.extend_from_slice(&triples_of_four(*corners))?;
+        triples.extend_from_slice(&triples_of_four(*corners))?;
     }
-    make_table(&mut table);
-    Ok(table)
+    make_table(&mut triples);
+    Ok(triples)
 }
 
 /// The edges of each face.
-pub fn face_edges(alloc: Global, edges: &[[u32; 2]], faces: &[[u32; 3]]) -> Result<Vec<[u32; 3]>, NoMemory>
+pub fn face_edges(
+    alloc: Global,
+    edges: &[[u32; 2]],
+    faces: &[[u32; 3]],
+) -> Result<Vec<[u32; 3]>, NoMemory>
     requires table { IsSmallTable edges.now }
     requires inside { All (HasChoices 2 edges.now) faces.now }
     ensures { IfOk result (λ rows. AllZip (λ corners ids. AreRanks edges.now (choices 2 corners) ids) faces.now rows.items) }
@@ -68,7 +72,11 @@ pub fn face_edges(alloc: Global, edges: &[[u32; 2]], faces: &[[u32; 3]]) -> Resu
 }
 
 /// The edges of each cell.
-pub fn cell_edges(alloc: Global, edges: &[[u32; 2]], cells: &[[u32; 4]]) -> Result<Vec<[u32; 6]>, NoMemory>
+pub fn cell_edges(
+    alloc: Global,
+    edges: &[[u32; 2]],
+    cells: &[[u32; 4]],
+) -> Result<Vec<[u32; 6]>, NoMemory>
     requires table { IsSmallTable edges.now }
     requires inside { All (HasChoices 2 edges.now) cells.now }
     ensures { IfOk result (λ rows. AllZip (λ corners ids. AreRanks edges.now (choices 2 corners) ids) cells.now rows.items) }
@@ -81,7 +89,11 @@ pub fn cell_edges(alloc: Global, edges: &[[u32; 2]], cells: &[[u32; 4]]) -> Resu
 }
 
 /// The faces of each cell.
-pub fn cell_faces(alloc: Global, faces: &[[u32; 3]], cells: &[[u32; 4]]) -> Result<Vec<[u32; 4]>, NoMemory>
+pub fn cell_faces(
+    alloc: Global,
+    faces: &[[u32; 3]],
+    cells: &[[u32; 4]],
+) -> Result<Vec<[u32; 4]>, NoMemory>
     requires table { IsSmallTable faces.now }
     requires inside { All (HasChoices 3 faces.now) cells.now }
     ensures { IfOk result (λ rows. AllZip (λ corners ids. AreRanks faces.now (choices 3 corners) ids) cells.now rows.items) }

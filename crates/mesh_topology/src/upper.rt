@@ -37,8 +37,16 @@ pub fn build_upper(alloc: Global, raw: &RawMesh, lower: &Lower) -> Result<Upper,
     let edge_faces = turn(alloc, lower.face_edges.as_slice(), edges)?;
     let edge_cells = turn(alloc, lower.cell_edges.as_slice(), edges)?;
     let face_cells = turn(alloc, lower.cell_faces.as_slice(), faces)?;
-    let vertex_vertices = all_beside(alloc, &vertex_edges, &as_lists(alloc, lower.sets.edges.as_slice())?)?;
-    let cell_cells = all_beside(alloc, &as_lists(alloc, lower.cell_faces.as_slice())?, &face_cells)?;
+    let vertex_vertices = all_beside(
+        alloc,
+        &vertex_edges,
+        &as_lists(alloc, lower.sets.edges.as_slice())?,
+    )?;
+    let cell_cells = all_beside(
+        alloc,
+        &as_lists(alloc, lower.cell_faces.as_slice())?,
+        &face_cells,
+    )?;
     Ok(Upper {
         vertex_vertices,
         vertex_edges,

@@ -4,4 +4,4 @@ use Rattle.mesh_topology.specs.Choices.{choices}
 use Rattle.mesh_topology.proofs.tables.edges.Given as goal
 
 abbrev pub invariant-loop-corners : goal.invariant-loop-corners
-invariant-loop-corners l = l.table.items ≡ flat_map (choices 2) (take l.corners-index l.cells)
+invariant-loop-corners l = l.pairs.items ≡ flat_map (choices 2) (take l.corners-index l.cells)

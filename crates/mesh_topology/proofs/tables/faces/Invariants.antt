@@ -4,4 +4,4 @@ use Rattle.mesh_topology.specs.Choices.{choices}
 use Rattle.mesh_topology.proofs.tables.faces.Given as goal
 
 abbrev pub invariant-loop-corners : goal.invariant-loop-corners
-invariant-loop-corners l = l.table.items ≡ flat_map (choices 3) (take l.corners-index l.cells)
+invariant-loop-corners l = l.triples.items ≡ flat_map (choices 3) (take l.corners-index l.cells)

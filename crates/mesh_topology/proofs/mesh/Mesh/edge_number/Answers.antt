@@ -19,6 +19,6 @@ returns c =
     let a = c.args.a in
     let b = c.args.b in
     elim c.if-a-b.branch [
-    | then-a-b w ↦ number_by mesh table e a b a b c.if-a-b.ends w.ends-is (omega (arith, w.if-a-b.true)) (same_order a b) c.place.result c.place.ensures.found c.place.ensures.none
-    | else-a-b w ↦ number_by mesh table e a b b a c.if-a-b.ends w.ends-is (omega (arith, w.if-a-b.false)) (other_order a b) c.place.result c.place.ensures.found c.place.ensures.none
+      | then-a-b w ↦ number_by mesh table e a b a b c.if-a-b.ends w.ends-is (omega (arith, w.if-a-b.true)) (same_order a b) c.place.result c.place.ensures.found c.place.ensures.none
+      | else-a-b w ↦ number_by mesh table e a b b a c.if-a-b.ends w.ends-is (omega (arith, w.if-a-b.false)) (other_order a b) c.place.result c.place.ensures.found c.place.ensures.none
     ]
