@@ -13,7 +13,7 @@ use Rattle.mesh_topology.proofs.Sides.{face_is}
 use Rattle.mesh_topology.proofs.Cycles.{same_by, begun, cycle_of_face}
 
 -- a member stands at some place
-placed : {A : Type 0} (xs : List A) (x d : A) → Member x xs → (k : ℕ) × (k < length xs) × (get_or xs k d ≡ x)
+pub placed : {A : Type 0} (xs : List A) (x d : A) → Member x xs → (k : ℕ) × (k < length xs) × (get_or xs k d ≡ x)
 placed [] x d m = absurd m
 placed (y ∷ ys) x d (inl e) = (zero, omega arith, e)
 placed (y ∷ ys) x d (inr m) = let p = placed ys x d m in (suc p.0, omega (arith, p.1), p.2)

@@ -1,6 +1,17 @@
+pub mod Besides
+pub mod Chosen
 pub mod Cycles
 pub mod FaceEdges
+pub mod Few
+pub mod Found
+pub mod Kept
+pub mod Listed
+pub mod Looked
+pub mod Lowers
+pub mod Near
 pub mod Ranked
 pub mod Rising
 pub mod Sets
 pub mod Sides
+pub mod Turned
+pub mod Uppers

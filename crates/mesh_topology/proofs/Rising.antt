@@ -32,7 +32,7 @@ pairs_of R (x ∷ xs) h = (
 )
 
 -- of two lists joined
-pairs_append : {A : Type 0} (R : A → A → Type 0) (xs ys : List A) → Pairs R xs → Pairs R ys
+pub pairs_append : {A : Type 0} (R : A → A → Type 0) (xs ys : List A) → Pairs R xs → Pairs R ys
     → ((x y : A) → Member x xs → Member y ys → R x y) → Pairs R (xs ++ ys)
 pairs_append R [] ys p q h = q
 pairs_append R (x ∷ xs) ys p q h = (
@@ -41,7 +41,7 @@ pairs_append R (x ∷ xs) ys p q h = (
 )
 
 -- of the values of a function that keeps the order
-pairs_map : {A B : Type 0} (R : A → A → Type 0) (S : B → B → Type 0) (f : A → B) (xs : List A) → ((x y : A) → R x y → S (f x) (f y))
+pub pairs_map : {A B : Type 0} (R : A → A → Type 0) (S : B → B → Type 0) (f : A → B) (xs : List A) → ((x y : A) → R x y → S (f x) (f y))
     → Pairs R xs → Pairs S (map f xs)
 pairs_map R S f [] h p = tt
 pairs_map R S f (x ∷ xs) h p = (
@@ -61,7 +61,7 @@ bounds low high (y ∷ ys) x b (inl e) = (omega (arith, b.0), omega (arith, b.1)
 bounds low high (y ∷ ys) x b (inr m) = let r = bounds (y + 1) high ys x b.2 m in (omega (arith, b.0), r.1)
 
 -- each is below each later one
-rising_pairs : (low high : ℕ) (xs : List ℕ) → Between low high xs → Pairs (λ x y. x < y) xs
+pub rising_pairs : (low high : ℕ) (xs : List ℕ) → Between low high xs → Pairs (λ x y. x < y) xs
 rising_pairs low high [] b = tt
 rising_pairs low high (x ∷ xs) b = (λ y m. let r = bounds (x + 1) high xs y b.2 m in omega arith, rising_pairs (x + 1) high xs b.2)
 
@@ -70,7 +70,7 @@ pub increasing : (low high : ℕ) (xs : List ℕ) → Between low high xs → Is
 increasing low high xs b = λ k l. all_pairs (λ x y. x < y) xs (rising_pairs low high xs b) k (k + 1) 0 (omega arith) l
 
 -- a list is so where each member is below each later one and all lie between
-between_pairs : (low high : ℕ) (xs : List ℕ) → Pairs (λ x y. x < y) xs → ((x : ℕ) → Member x xs → (low ≤ x) × (x < high))
+pub between_pairs : (low high : ℕ) (xs : List ℕ) → Pairs (λ x y. x < y) xs → ((x : ℕ) → Member x xs → (low ≤ x) × (x < high))
     → Between low high xs
 between_pairs low high [] p h = tt
 between_pairs low high (x ∷ xs) p h = let r = h x (inl refl) in
@@ -148,11 +148,11 @@ cmp_same : (a : ℕ) → nat_cmp a a ≡ Equal
 cmp_same a = grind (arith, nat_tests)
 
 -- the same number before both changes nothing
-before_more : (a : ℕ) (xs ys : List ℕ) → Before xs ys → Before (a ∷ xs) (a ∷ ys)
+pub before_more : (a : ℕ) (xs ys : List ℕ) → Before xs ys → Before (a ∷ xs) (a ∷ ys)
 before_more a xs ys h = rw (cmp_same a) h
 
 -- a lower first number decides
-before_first : (a b : ℕ) (xs ys : List ℕ) → a < b → Before (a ∷ xs) (b ∷ ys)
+pub before_first : (a b : ℕ) (xs ys : List ℕ) → a < b → Before (a ∷ xs) (b ∷ ys)
 before_first a b xs ys h = rw (lt-ltb a b h) refl
 
 -- no list is before itself

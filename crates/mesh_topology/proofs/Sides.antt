@@ -84,7 +84,7 @@ abbrev pub beside : List ℕ → List (List ℕ) → ℕ
 beside t cells = length (filter (λ cell. includes cell t) cells)
 
 -- two tests that follow from each other are one
-same_test : (a b : Bool) → (a ≡ true → b ≡ true) → (b ≡ true → a ≡ true) → a ≡ b
+pub same_test : (a b : Bool) → (a ≡ true → b ≡ true) → (b ≡ true → a ≡ true) → a ≡ b
 same_test true b h k = sym (h refl)
 same_test false true h k = k refl
 same_test false false h k = refl

@@ -1,2 +1,5 @@
+pub mod Choices
 pub mod Elements
+pub mod Incidence
 pub mod Meshes
+pub mod Tables

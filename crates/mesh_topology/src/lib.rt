@@ -1,6 +1,16 @@
 //! The elements of a tetrahedral mesh: the definitions of which there are, how they are numbered, and which lie beside which,
-//! with their laws.
+//! with their laws, and the mesh whose tables keep them.
 #![tactic(auto)]
 
 mod cases;
+mod corner_sets;
+mod incidence;
 pub mod laws;
+mod lower;
+mod mesh;
+mod tables;
+#[cfg(test)]
+mod tests;
+mod upper;
+
+pub use mesh::Mesh;

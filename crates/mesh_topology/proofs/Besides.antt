@@ -1,0 +1,32 @@
+-- The ids on the lists of a list, gathered one list after the other.
+use Rattle.std.proofs.Common.{◌≡◌, ℕ, ◌+◌, ◌<◌, List, [], ◌∷◌, ◌++◌, length, take, get_or, slice_get, filter, Some, sym, ap, subst, ◌∙◌, inl, inr, arith}
+use Rattle.std.proofs.lemmas.Bool.{cases_eq}
+use Rattle.std.proofs.lemmas.List.{flat_map_more, get_or_append_left, get_or_push, length_push, take_more}
+use Rattle.std.proofs.lemmas.Option.{get_or_from_slice_get}
+use Rattle.mesh_topology.specs.Incidence.{is_other, others_on, AreBeside, IsSetOf}
+
+-- a list more
+pub others_more : (id : ℕ) (back : List (List ℕ)) (through : List ℕ) (i : ℕ) (mid list new : List ℕ) → i < length through → slice_get back (get_or through i 0) ≡ Some list
+    → mid ≡ others_on id back (take i through) → new ≡ mid ++ filter (is_other id) list → new ≡ others_on id back (take (i + 1) through)
+others_more id back through i mid list new l read so is =
+    let f = λ (by : ℕ). filter (is_other id) (get_or back by []) in
+    let one = sym (get_or_from_slice_get back (get_or through i 0) list [] read) in
+    is ∙ (ap (λ xs. xs ++ filter (is_other id) list) so ∙ (ap (λ xs. others_on id back (take i through) ++ filter (is_other id) xs) one
+    ∙ (flat_map_more f [] (take i through) (get_or through i 0) ∙ ap (λ xs. others_on id back xs) (sym (take_more through i 0 l)))))
+
+-- a set more
+pub beside_more : (through back : List (List ℕ)) (id : ℕ) (all : List (List ℕ)) (list others : List ℕ) (new : List (List ℕ)) → AreBeside through back id all → slice_get through id ≡ Some list
+    → IsSetOf (others_on id back list) others → new ≡ all ++ others ∷ [] → AreBeside through back (id + 1) new
+beside_more through back id all list others new so read one is = record { long = ap (λ xs. length xs) is ∙ (length_push all others ∙ ap (λ n. n + 1) so.long); at = at } where
+  at : (k : ℕ) → k < id + 1 → IsSetOf (others_on k back (get_or through k [])) (get_or new k [])
+  at k l = elim (cases_eq k id) [
+    | inl e ↦
+        let first : get_or new id [] ≡ others = ap (λ xs. get_or xs id []) is ∙ get_or_push all others [] id so.long in
+        let second : list ≡ get_or through id [] = sym (get_or_from_slice_get through id list [] read) in
+        let here = subst (λ xs. IsSetOf (others_on id back xs) (get_or new id [])) second (subst (λ xs. IsSetOf (others_on id back list) xs) (sym first) one) in
+        subst (λ n. IsSetOf (others_on n back (get_or through n [])) (get_or new n [])) (sym e) here
+    | inr ne ↦
+        let before : k < id = omega arith in
+        let first : get_or new k [] ≡ get_or all k [] = ap (λ xs. get_or xs k []) is ∙ get_or_append_left all (others ∷ []) [] k (omega (arith, so.long)) in
+        subst (λ xs. IsSetOf (others_on k back (get_or through k [])) xs) (sym first) (so.at k before)
+  ]

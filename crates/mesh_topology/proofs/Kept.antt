@@ -1,0 +1,29 @@
+-- The tables of a mesh are those of the definitions, as they are built.
+use Rattle.std.proofs.Common.{◌≡◌, ℕ, List, length, flat_map, sym, subst}
+use Rattle.std.specs.List.{AllZip}
+use Rattle.liszt_base.specs.Corners.{IsMesh}
+use Rattle.liszt_base.specs.MeshLists.{MeshLists}
+use Rattle.liszt_base.specs.declared.elements.Kind.{Kind}
+use Rattle.liszt_base.specs.declared.mesh.RawCell.{RawCell}
+use Rattle.mesh_topology.specs.Choices.{choices, IsAscending, IsSmallTable, IsTableOf}
+use Rattle.mesh_topology.specs.Elements.{corner_lists, elements, HasCorners}
+use Rattle.mesh_topology.specs.Tables.{IsSmallMesh}
+use Rattle.mesh_topology.proofs.Ranked.{ordered}
+use Rattle.mesh_topology.proofs.Near.{AreRows, are_rows, table_is}
+
+-- the table of the choices from the rows of all cells
+pub elements_are : (mesh : MeshLists) → IsSmallMesh mesh → (kind : Kind) (size : ℕ) → HasCorners kind size → (cells : List RawCell) (rows read table : List (List ℕ))
+    → cells ≡ mesh.cells → AllZip IsAscending cells rows → read ≡ rows → IsTableOf (flat_map (choices size) read) table → table ≡ elements mesh kind
+elements_are mesh small kind size h cells rows read table same all e t =
+    let are = are_rows mesh small.is rows (subst (λ cs. AllZip IsAscending cs rows) same all) in
+    table_is mesh small.is rows are kind size h table (subst (λ rs. IsTableOf (flat_map (choices size) rs) table) e t)
+
+-- it can be searched
+pub small_table : (mesh : MeshLists) → IsSmallMesh mesh → (kind : Kind) (size : ℕ) → HasCorners kind size → (table : List (List ℕ)) → table ≡ elements mesh kind → IsSmallTable table
+small_table mesh small kind size h table e =
+    let all : IsSmallTable (elements mesh kind) = record { few = small.fits kind; ordered = ordered mesh kind size h } in
+    subst (λ t. IsSmallTable t) (sym e) all
+
+-- the rows of all cells
+pub table_rows : (mesh : MeshLists) → IsMesh (length mesh.points) (corner_lists mesh) → (rows read : List (List ℕ)) → read ≡ rows → AllZip IsAscending mesh.cells rows → AreRows mesh read
+table_rows mesh is rows read e all = subst (λ r. AreRows mesh r) (sym e) (are_rows mesh is rows all)

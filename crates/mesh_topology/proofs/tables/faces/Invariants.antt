@@ -1,0 +1,7 @@
+use Rattle.std.proofs.Common.{◌≡◌, take}
+use Rattle.std.specs.List.{flat_map}
+use Rattle.mesh_topology.specs.Choices.{choices}
+use Rattle.mesh_topology.proofs.tables.faces.Given as goal
+
+abbrev pub invariant-loop-corners : goal.invariant-loop-corners
+invariant-loop-corners l = l.triples.items ≡ flat_map (choices 3) (take l.corners-index l.cells)
