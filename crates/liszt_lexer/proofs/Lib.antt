@@ -1,4 +1,9 @@
+pub mod Bytes
 pub mod Findings
+pub mod Fronts
 pub mod Longest
+pub mod Names
+pub mod Numbers
 pub mod PieceList
 pub mod Places
+pub mod Rest

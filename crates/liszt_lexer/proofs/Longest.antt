@@ -16,7 +16,7 @@ abbrev IsLargest : (ℕ → Bool) → ℕ → ℕ → Type 0
 IsLargest test n size = (size ≤ n) × (test size ≡ true) × ((more : ℕ) → size < more → more ≤ n → test more ≡ false)
 
 -- up to one more is up to it or one more
-at_or_below : (k n : ℕ) → k ≤ suc n → (k ≡ suc n) ⊎ (k ≤ n)
+pub at_or_below : (k n : ℕ) → k ≤ suc n → (k ≡ suc n) ⊎ (k ≤ n)
 at_or_below k n le = grind arith
 
 -- where the number above fails too, one that is not above n fails

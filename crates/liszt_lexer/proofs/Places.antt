@@ -1,11 +1,12 @@
 -- The place behind a longer front of a text comes after the place behind a shorter one.
 use Rattle.std.proofs.Common.{◌≡◌, ℕ, zero, suc, ◌+◌, ◌-◌, ◌<◌, ◌≤◌, ◌⊎◌, inl, inr, not, cond, Bool, true, false, List, [], ◌∷◌, ◌++◌}
-use Rattle.std.proofs.Common.{length, reverse, get_or, take, refl, sym, ap, subst, ◌∙◌, length-drop, arith}
+use Rattle.std.proofs.Common.{length, reverse, get_or, take, drop, refl, sym, ap, subst, ◌∙◌, length-drop, length-take, arith}
 use Rattle.std.specs.List.{count_by, after_last, prefix_len}
-use Rattle.std.proofs.lemmas.List.{take_more, length-reverse, reverse-append}
-use Rattle.std.proofs.lemmas.List.Sums.{count_by_more_no, count_by_more_yes}
+use Rattle.std.proofs.lemmas.List.{take_more, get_or-take, get_or-drop, length-take-le, length-reverse, reverse-append}
+use Rattle.std.proofs.lemmas.List.Sums.{count_by_more_no, count_by_more_yes, count_by-le-length, prefix_len-le-length}
 use Rattle.liszt_base.specs.declared.answers.Place.{Place}
 use Rattle.liszt_lexer.specs.Lexer.{is_line_feed, place_behind, IsBefore}
+use Rattle.liszt_lexer.specs.Rest.{place_past}
 
 -- the front that passes a test is no longer than the list
 prefix_len_within : (p : ℕ → Bool) (xs : List ℕ) → prefix_len p xs ≤ length xs
@@ -31,6 +32,14 @@ one_more front b e =
     let longer : prefix_len (λ b. not (is_line_feed b)) (reverse (front ++ b ∷ [])) ≡ 1 + n =
     ap (prefix_len (λ b. not (is_line_feed b))) turned ∙ here in
     omega (arith, length_after (front ++ b ∷ []), length_after front)
+
+-- behind an LF there is nothing yet
+none_more : (front : List ℕ) (b : ℕ) → is_line_feed b ≡ true → length (after_last is_line_feed (front ++ b ∷ [])) ≡ 0
+none_more front b e =
+    let turned : reverse (front ++ b ∷ []) ≡ b ∷ reverse front = reverse-append front (b ∷ []) in
+    let n = prefix_len (λ b. not (is_line_feed b)) (reverse front) in
+    let here : cond (not (is_line_feed b)) (1 + n) 0 ≡ 0 = ap (λ t. cond (not t) (1 + n) 0) e in
+    length_after (front ++ b ∷ []) ∙ ap (prefix_len (λ b. not (is_line_feed b))) turned ∙ here
 
 -- what comes before is carried over a place between
 later : (p q r : Place) → IsBefore p q → IsBefore q r → IsBefore p r
@@ -79,3 +88,43 @@ ascends text i (suc j) lt within =
         → (i ≡ j) ⊎ IsBefore (place_behind (take i text)) (place_behind (take j text))
     go (inl e) more = inl e
     go (inr less) more = inr (more less)
+
+-- a place that is the same in both parts
+same_place : (line line' col col' : ℕ) → line ≡ line' → col ≡ col' → ◌≡◌ {A = Place} (record { line = line; col = col }) (record { line = line'; col = col' })
+same_place line line' col col' p q = λ i. record { line = p i; col = q i }
+
+-- the place past the next byte is the one behind the bytes up to there
+pub past_next : (text : List ℕ) (i : ℕ) → i < length text
+    → place_past (place_behind (take i text)) (get_or text i 0) ≡ place_behind (take (i + 1) text)
+past_next text i within = go (is_line_feed (get_or text i 0)) refl where
+  go : (test : Bool) → is_line_feed (get_or text i 0) ≡ test
+      → place_past (place_behind (take i text)) (get_or text i 0) ≡ place_behind (take (i + 1) text)
+  go true e = rw e (same_place (count_by is_line_feed (take i text) + 1 + 1) (count_by is_line_feed (take (i + 1) text) + 1) 1
+      (length (after_last is_line_feed (take (i + 1) text)) + 1) (omega (arith, count_by_more_yes is_line_feed text i 0 within e))
+      (omega (arith, ap (λ l. length (after_last is_line_feed l)) (take_more text i 0 within), none_more (take i text) (get_or text i 0) e)))
+  go false e = rw e (same_place (count_by is_line_feed (take i text) + 1) (count_by is_line_feed (take (i + 1) text) + 1)
+      (length (after_last is_line_feed (take i text)) + 1 + 1) (length (after_last is_line_feed (take (i + 1) text)) + 1)
+      (omega (arith, count_by_more_no is_line_feed text i 0 within e))
+      (omega (arith, ap (λ l. length (after_last is_line_feed l)) (take_more text i 0 within), one_more (take i text) (get_or text i 0) e)))
+
+-- lines and columns are no more than the bytes and one
+pub place_is_small : (text : List ℕ) (n : ℕ) → n ≤ length text
+    → ((place_behind (take n text)).line ≤ n + 1) × ((place_behind (take n text)).col ≤ n + 1)
+place_is_small text n le =
+    let size = length-take-le n text le in (
+      omega (arith, count_by-le-length is_line_feed (take n text)),
+      omega (arith, length_after (take n text), prefix_len-le-length (λ b. not (is_line_feed b)) (reverse (take n text)), length-reverse (take n text)),
+    )
+
+-- so it is where the bytes are a part of the text
+pub past_in_part : (text : List ℕ) (passed n i : ℕ) → i < length (take n (drop passed text))
+    → place_past (place_behind (take (passed + i) text)) (get_or (take n (drop passed text)) i 0)
+    ≡ place_behind (take (passed + (i + 1)) text)
+past_in_part text passed n i lt =
+    let few : i < n = omega (arith, length-take n (drop passed text)) in
+    let within : passed + i < length text = omega (arith, length-take n (drop passed text), length-drop passed text) in
+    let same : passed + i + 1 ≡ passed + (i + 1) = omega arith in
+    let byte : get_or (take n (drop passed text)) i 0 ≡ get_or text (passed + i) 0 =
+    get_or-take n (drop passed text) i 0 few ∙ get_or-drop passed text i 0 in
+    ap (place_past (place_behind (take (passed + i) text))) byte ∙ past_next text (passed + i) within
+    ∙ ap (λ (k : ℕ). place_behind (take k text)) same

@@ -1,8 +1,14 @@
-//! The tokens of a program's text: their types, and the definitions of what a text's tokens are, with their laws.
+//! The tokens of a program's text: their types, the function that finds them, and the definitions of what a text's tokens
+//! are, with their laws.
 #![tactic(auto)]
 
 mod cases;
+mod cursor;
+mod front;
 pub mod laws;
+mod lexer;
+mod shared;
 mod token;
 
+pub use lexer::{TokenList, tokens};
 pub use token::{Token, TokenKind};

@@ -1,0 +1,57 @@
+//! Where a text is read, and the place of that.
+ghost use Rattle.std.specs.Prelude.{◌≡◌, ◌+◌, ◌^◌, ◌<◌, ◌≤◌, length};
+ghost use Rattle.liszt_lexer.specs.Rest.{IsAt, place_past};
+
+use liszt_base::Place;
+
+/// How many bytes of a text have been read, and the place behind them.
+#[derive(Clone, Copy, Debug, PartialEq, Eq)]
+pub struct Cursor {
+    pub passed: usize,
+    pub place: Place,
+}
+
+impl Cursor {
+    /// The beginning of any text.
+    pub fn new() -> Cursor
+        ensures { result ≡ record { passed = 0; place = record { line = 1; col = 1 } } }
+    {
+        Cursor {
+            passed: 0,
+            place: Place { line: 1, col: 1 },
+        }
+    }
+
+    /// Passes the next `size` bytes of the text.
+    pub fn pass(&mut self, text: &[u8], size: usize)
+        requires at { IsAt text.now self.old }
+        requires within { self.old.passed + size ≤ length text.now }
+        requires short { length text.now < 2 ^ 31 }
+        ensures at { IsAt text.now self.new }
+        ensures passed { self.new.passed ≡ self.old.passed + size }
+    {
+        for byte in &text[self.passed..self.passed + size] {
+            self.place = past(self.place, *byte);
+        }
+        self.passed += size;
+    }
+}
+
+/// The place past one byte more.
+fn past(place: Place, byte: u8) -> Place
+    requires line { place.line + 1 < 2 ^ 32 }
+    requires col { place.col + 1 < 2 ^ 32 }
+    ensures { result ≡ place_past place byte }
+{
+    if byte == b'\n' {
+        Place {
+            line: place.line + 1,
+            col: 1,
+        }
+    } else {
+        Place {
+            line: place.line,
+            col: place.col + 1,
+        }
+    }
+}
