@@ -79,6 +79,23 @@ pub struct MeshFault {
     pub number: i64,
 }
 
+/// What has a limit: the bytes of a file, and the points and cells that a header names.
+#[derive(Clone, Copy, Debug, PartialEq, Eq)]
+pub enum LimitWhat {
+    File(Input),
+    Points,
+    Cells,
+}
+
+/// Something past its limit: how many are allowed, and how many there are; of a file's bytes at least one more than allowed, which
+/// is the number then.
+#[derive(Clone, Copy, Debug, PartialEq, Eq)]
+pub struct LimitFault {
+    pub what: LimitWhat,
+    pub allowed: u64,
+    pub found: u64,
+}
+
 /// A place in a program's text: its line and its byte in that line, both from 1. LF alone ends a line.
 #[derive(Clone, Copy, Debug, PartialEq, Eq)]
 pub struct Place {

@@ -18,7 +18,8 @@ mod word_list;
 
 pub use accesses::{Access, Mode, Spot};
 pub use answers::{
-    Input, MeshFault, MeshFile, MeshWhat, NoMemory, Place, ProgramFault, ProgramWhat, Refused,
+    Input, LimitFault, LimitWhat, MeshFault, MeshFile, MeshWhat, NoMemory, Place, ProgramFault,
+    ProgramWhat, Refused,
 };
 pub use elements::{Elem, Kind, Op, SetName};
 pub use gate::{Gate, OpenGate};

@@ -2,7 +2,8 @@
 
 use crate::accesses::{Access, Mode, Spot};
 use crate::answers::{
-    Input, MeshFault, MeshFile, MeshWhat, NoMemory, Place, ProgramFault, ProgramWhat, Refused,
+    Input, LimitFault, LimitWhat, MeshFault, MeshFile, MeshWhat, NoMemory, Place, ProgramFault,
+    ProgramWhat, Refused,
 };
 use crate::elements::{Elem, Kind, Op, SetName};
 use crate::gate::OpenGate;
@@ -20,6 +21,8 @@ fn types_are_shared() {
     needs_shared::<MeshFile>();
     needs_shared::<MeshWhat>();
     needs_shared::<MeshFault>();
+    needs_shared::<LimitWhat>();
+    needs_shared::<LimitFault>();
     needs_shared::<Place>();
     needs_shared::<ProgramWhat>();
     needs_shared::<ProgramFault>();

@@ -1,32 +1,86 @@
 -- Endings, their status and their texts. This project's own.
-use Rattle.std.specs.Prelude.{ℕ, ◌+ℤ◌, ℤ, List, [], ◌∷◌, ◌++◌, length, codes}
+use Rattle.std.specs.Prelude.{ℕ, ◌+◌, ◌+ℤ◌, ℤ, nat_abs, List, [], ◌∷◌, ◌++◌, length, codes}
 use Rattle.std.specs.List.{flat_map, range_with_len}
 use Rattle.std.specs.Fmt.{decimal, signed_decimal}
 use Rattle.liszt_base.specs.declared.answers.Input.{Input}
 use Rattle.liszt_base.specs.declared.answers.Input.TheVariants.{Program, Node, Ele}
+use Rattle.liszt_base.specs.declared.answers.LimitWhat.{LimitWhat}
+use Rattle.liszt_base.specs.declared.answers.LimitWhat.TheVariants.{File, Points, Cells}
+use Rattle.liszt_base.specs.declared.answers.MeshFault.{MeshFault}
+use Rattle.liszt_base.specs.declared.answers.MeshFile.{MeshFile}
+use Rattle.liszt_base.specs.declared.answers.MeshFile.TheVariants.{Node as InNode, Ele as InEle}
+use Rattle.liszt_base.specs.declared.answers.MeshWhat.{MeshWhat}
+use Rattle.liszt_base.specs.declared.answers.MeshWhat.TheVariants.{Header, BadNumber, CoordRange, Dimension, SecondOrder, NumberOrder, Missing, Extra, CornerRange, CornerTwice, CellTwice, FaceShared, TooMany}
 use Rattle.liszt_base.specs.MeshLists.{MeshLists}
 use Rattle.liszt_parser.specs.declared.plain.Plain.{Plain}
 use Rattle.liszt_run.specs.declared.ended.Ended.{Ended}
-use Rattle.liszt_run.specs.declared.ended.Ended.TheVariants.{Done, Usage, Later, ReadFault, WriteFault, NoMemory}
+use Rattle.liszt_run.specs.declared.ended.Ended.TheVariants.{Done, Usage, Later, Mesh, Limit, ReadFault, WriteFault, NoMemory}
 
 abbrev pub status : Ended → ℕ
 status Done = 0
 status Usage = 1
+status (Mesh fault) = 3
+status (Limit fault) = 6
 status (ReadFault x) = 8
 status WriteFault = 9
 status NoMemory = 10
-status (Later x) = 11
+status Later = 11
+
+-- no file has more bytes; there are no more points, and no more cells
+abbrev pub file_limit : ℕ
+file_limit = 67108864
+
+-- The ending of a file that is too long, and that of a mesh with a fault: a count past its limit is a limit of its own.
+abbrev pub too_long : Input → Ended
+too_long input = Limit (record { what = File input; allowed = file_limit; found = file_limit + 1 })
+
+abbrev pub too_many : MeshFile → ℤ → Ended
+too_many InNode count = Limit (record { what = Points; allowed = 200000; found = nat_abs count })
+too_many InEle count = Limit (record { what = Cells; allowed = 1000000; found = nat_abs count })
+
+abbrev pub mesh_ending : MeshFault → Ended
+mesh_ending fault = ending fault.what where
+  ending : MeshWhat → Ended
+  ending TooMany = too_many fault.file fault.number
+  ending what = Mesh fault
 
 abbrev pub input_word : Input → List ℕ
 input_word Program = codes "program"
 input_word Node = codes "node"
 input_word Ele = codes "ele"
 
+abbrev pub mesh_file_word : MeshFile → List ℕ
+mesh_file_word InNode = codes "node"
+mesh_file_word InEle = codes "ele"
+
+abbrev pub mesh_word : MeshWhat → List ℕ
+mesh_word Header = codes "Header"
+mesh_word BadNumber = codes "BadNumber"
+mesh_word CoordRange = codes "CoordRange"
+mesh_word Dimension = codes "Dimension"
+mesh_word SecondOrder = codes "SecondOrder"
+mesh_word NumberOrder = codes "NumberOrder"
+mesh_word Missing = codes "Missing"
+mesh_word Extra = codes "Extra"
+mesh_word CornerRange = codes "CornerRange"
+mesh_word CornerTwice = codes "CornerTwice"
+mesh_word CellTwice = codes "CellTwice"
+mesh_word FaceShared = codes "FaceShared"
+mesh_word TooMany = codes "TooMany"
+
+abbrev pub limit_word : LimitWhat → List ℕ
+limit_word (File x) = codes "File " ++ input_word x
+limit_word Points = codes "Points"
+limit_word Cells = codes "Cells"
+
 -- the line of a refusal
 abbrev pub refusal_text : Ended → List ℕ
 refusal_text Usage =
     codes "usage: liszt_run MODE PROGRAM NODE ELE [--workers N] [--ranks N] [--parts NAME] [--turns L] or self N\n"
-refusal_text (Later x) = codes "later " ++ (input_word x ++ codes "\n")
+refusal_text Later = codes "later program\n"
+refusal_text (Mesh fault) =
+    codes "mesh " ++ (mesh_file_word fault.file ++ (codes " " ++ (mesh_word fault.what ++ (codes " line " ++ (decimal fault.line ++ codes "\n")))))
+refusal_text (Limit fault) = codes "limit " ++ (limit_word fault.what ++ (codes " over " ++ (decimal fault.allowed ++ codes "\n")))
 refusal_text (ReadFault x) = codes "read fault " ++ (input_word x ++ codes "\n")
 refusal_text NoMemory = codes "no memory\n"
 refusal_text Done = []

@@ -1,17 +1,20 @@
 -- The ending and the text that belong to a list of words and to files. It knows nothing of memory. This project's own.
-use Rattle.std.specs.Prelude.{◌≡◌, ℕ, ◌<◌, ◌≤◌, ◌⊎◌, List, length, MatchOption, Some, None}
+use Rattle.std.specs.Prelude.{◌≡◌, ℕ, ◌<◌, ◌≤◌, ◌⊎◌, List, length, MatchOption, Some, None, Result, Ok, Err}
 use Rattle.liszt_base.specs.declared.answers.Input.{Input}
 use Rattle.liszt_base.specs.declared.answers.Input.TheVariants.{Program, Node, Ele}
+use Rattle.liszt_base.specs.declared.answers.MeshFault.{MeshFault}
 use Rattle.liszt_base.specs.declared.mesh.PointTable.{PointTable}
 use Rattle.liszt_base.specs.MeshLists.{MeshLists}
 use Rattle.liszt_io.specs.Shelves.{Files, file}
 use Rattle.liszt_parser.specs.declared.plain.Plain.{Plain}
 use Rattle.liszt_parser.specs.PlainProgram.{IsPlainProgram}
-use Rattle.tet_reader.specs.PlainMesh.{IsPlainNode, IsPlainMeshOver}
+use Rattle.text_scan.specs.Rows.{text_rows}
+use Rattle.tet_reader.specs.Answers.{SpellTable, SpellMesh}
+use Rattle.tet_reader.specs.Faults.{node_fault, cells_fault}
 use Rattle.liszt_run.specs.declared.ended.Ended.{Ended}
 use Rattle.liszt_run.specs.declared.ended.Ended.TheVariants.{Done, Usage, Later, ReadFault}
 use Rattle.liszt_run.specs.Commands.{command_of, SeqCommand}
-use Rattle.liszt_run.specs.Endings.{refusal_text, done_text}
+use Rattle.liszt_run.specs.Endings.{refusal_text, done_text, file_limit, too_long, mesh_ending}
 
 -- an ending and its text
 pub record Outcome : Type 0 where
@@ -21,37 +24,49 @@ pub record Outcome : Type 0 where
 abbrev pub refusal : Ended → Outcome
 refusal ended = record { ended = ended; text = refusal_text ended }
 
--- no file has more bytes
-abbrev pub file_limit : ℕ
-file_limit = 67108864
+-- WHAT THE BYTES OF A FILE COME TO: a value that they spell, or the ending that their fault leads to.
+-- A program is in the plain form, or else comes later.
+abbrev pub ProgramTells : List ℕ → Result Plain Ended → Type 0
+ProgramTells bytes (Ok program) = IsPlainProgram bytes program
+ProgramTells bytes (Err ended) = (ended ≡ Later) × ((program : Plain) → IsPlainProgram bytes program → ⊥)
 
--- the bytes spell the value, within the limit
-abbrev pub InForm : {A : Type 0} → (List ℕ → A → Type 0) → List ℕ → A → Type 0
-InForm Spells bytes value = (length bytes ≤ file_limit) × Spells bytes value
+-- the points of a node file, or its first fault
+abbrev pub NodeTells : List ℕ → Result PointTable Ended → Type 0
+NodeTells bytes (Ok table) = SpellTable (text_rows bytes) table
+NodeTells bytes (Err ended) = (fault : MeshFault) × (node_fault (text_rows bytes) ≡ Some fault) × (ended ≡ mesh_ending fault)
 
--- they are past the limit, or spell no value
-abbrev pub IsOutside : {A : Type 0} → (List ℕ → A → Type 0) → List ℕ → Type 0
-IsOutside {A} Spells bytes = (file_limit < length bytes) ⊎ ((value : A) → Spells bytes value → ⊥)
+-- the mesh of an ele file over points, or its first fault, with the tests of the whole mesh
+abbrev pub EleTells : PointTable → List ℕ → Result MeshLists Ended → Type 0
+EleTells table bytes (Ok mesh) = SpellMesh table (text_rows bytes) mesh
+EleTells table bytes (Err ended) =
+    (fault : MeshFault) × (cells_fault (length table.list) table.base (text_rows bytes) ≡ Some fault) × (ended ≡ mesh_ending fault)
 
--- An input is taken in: its file is missing, or it is outside its form, or the command goes on with what it spells.
-abbrev pub TakesIn : {A : Type 0} → (List ℕ → Type 0) → Files → Input → List ℕ → (List ℕ → A → Type 0) → (A → Outcome → Type 0) → Outcome → Type 0
-TakesIn {A} IsMissing files input name Spells GoesOn outcome =
+-- within the limit of bytes; longer they come to that limit
+abbrev pub Within : {A : Type 0} → Input → (List ℕ → Result A Ended → Type 0) → List ℕ → Result A Ended → Type 0
+Within input Tells bytes told = ((file_limit < length bytes) × (told ≡ Err (too_long input))) ⊎ ((length bytes ≤ file_limit) × Tells bytes told)
+
+-- An input is taken in: its file is missing, or its bytes come to a refusal, or the command goes on with their value.
+abbrev pub Follows : {A : Type 0} → (A → Outcome → Type 0) → Result A Ended → Outcome → Type 0
+Follows GoesOn (Ok value) outcome = GoesOn value outcome
+Follows GoesOn (Err ended) outcome = outcome ≡ refusal ended
+
+abbrev pub TakesIn : {A : Type 0} → (List ℕ → Type 0) → Files → Input → List ℕ → (List ℕ → Result A Ended → Type 0) → (A → Outcome → Type 0) → Outcome → Type 0
+TakesIn {A} IsMissing files input name Tells GoesOn outcome =
     (IsMissing name × (outcome ≡ refusal (ReadFault input)))
-    ⊎ (((bytes : List ℕ) × (file files name ≡ Some bytes) × IsOutside Spells bytes × (outcome ≡ refusal (Later input)))
-    ⊎ ((bytes : List ℕ) × (value : A) × (file files name ≡ Some bytes) × InForm Spells bytes value × GoesOn value outcome))
+    ⊎ ((bytes : List ℕ) × (told : Result A Ended) × (file files name ≡ Some bytes) × Within input Tells bytes told × Follows GoesOn told outcome)
 
 -- `seq`: the program, the points and the cells are taken in, in this order, and then the program is run.
 abbrev pub Finishes : Plain → MeshLists → Outcome → Type 0
 Finishes program mesh outcome = outcome ≡ record { ended = Done; text = done_text program mesh }
 
 abbrev pub TakesCells : (List ℕ → Type 0) → Files → SeqCommand → Plain → PointTable → Outcome → Type 0
-TakesCells IsMissing files c program table = TakesIn IsMissing files Ele c.ele (IsPlainMeshOver table) (Finishes program)
+TakesCells IsMissing files c program table = TakesIn IsMissing files Ele c.ele (EleTells table) (Finishes program)
 
 abbrev pub TakesPoints : (List ℕ → Type 0) → Files → SeqCommand → Plain → Outcome → Type 0
-TakesPoints IsMissing files c program = TakesIn IsMissing files Node c.node IsPlainNode (TakesCells IsMissing files c program)
+TakesPoints IsMissing files c program = TakesIn IsMissing files Node c.node NodeTells (TakesCells IsMissing files c program)
 
 abbrev pub Seq : (List ℕ → Type 0) → Files → SeqCommand → Outcome → Type 0
-Seq IsMissing files c = TakesIn IsMissing files Program c.program IsPlainProgram (TakesPoints IsMissing files c)
+Seq IsMissing files c = TakesIn IsMissing files Program c.program ProgramTells (TakesPoints IsMissing files c)
 
 -- what a list of words comes to, where a file is missing by its name
 abbrev pub ComesTo : (List ℕ → Type 0) → List (List ℕ) → Files → Outcome → Type 0

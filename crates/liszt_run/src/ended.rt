@@ -1,7 +1,8 @@
 ghost use Rattle.std.specs.Prelude.{◌≡◌};
-ghost use Rattle.liszt_run.specs.Endings.{status};
+ghost use Rattle.liszt_run.specs.Endings.{status, mesh_ending, too_long as TooLong};
+ghost use Rattle.liszt_run.specs.Answers.{IsFileFault};
 
-use liszt_base::Input;
+use liszt_base::{Input, LimitFault, LimitWhat, MeshFault, MeshFile, MeshWhat};
 
 /// How a call of the program ends.
 #[derive(Clone, Copy, Debug, PartialEq, Eq)]
@@ -10,8 +11,12 @@ pub enum Ended {
     Done,
     /// The words name no command.
     Usage,
-    /// This file isn't of the plain form, the only one that is read so far.
-    Later(Input),
+    /// The program isn't of the plain form, the only one that is read so far.
+    Later,
+    /// The mesh has this fault.
+    Mesh(MeshFault),
+    /// Something is past its limit.
+    Limit(LimitFault),
     /// This file could not be read.
     ReadFault(Input),
     /// The text could not be written whole.
@@ -20,6 +25,9 @@ pub enum Ended {
     NoMemory,
 }
 
+/// No file may have more bytes.
+pub const FILE_LIMIT: usize = 67_108_864;
+
 /// The exit status of an ending.
 pub fn status_of(ended: Ended) -> u8
     ensures { result ≡ status ended }
@@ -27,9 +35,45 @@ pub fn status_of(ended: Ended) -> u8
     match ended {
         Ended::Done => 0,
         Ended::Usage => 1,
+        Ended::Mesh(_) => 3,
+        Ended::Limit(_) => 6,
         Ended::ReadFault(_) => 8,
         Ended::WriteFault => 9,
         Ended::NoMemory => 10,
-        Ended::Later(_) => 11,
+        Ended::Later => 11,
+    }
+}
+
+/// The ending of a file that is too long.
+pub fn too_long(input: Input) -> Ended
+    ensures { result ≡ TooLong input }
+{
+    Ended::Limit(LimitFault {
+        what: LimitWhat::File(input),
+        allowed: 67_108_864,
+        found: 67_108_865,
+    })
+}
+
+/// The ending of a mesh with this fault: a count past its limit is a limit of its own.
+pub fn mesh_ended(fault: MeshFault) -> Ended
+    ensures is { result ≡ mesh_ending fault }
+    ensures file { IsFileFault result }
+{
+    if fault.what != MeshWhat::TooMany {
+        return Ended::Mesh(fault);
+    }
+    let found = fault.number.unsigned_abs();
+    match fault.file {
+        MeshFile::Node => Ended::Limit(LimitFault {
+            what: LimitWhat::Points,
+            allowed: 200_000,
+            found,
+        }),
+        MeshFile::Ele => Ended::Limit(LimitFault {
+            what: LimitWhat::Cells,
+            allowed: 1_000_000,
+            found,
+        }),
     }
 }

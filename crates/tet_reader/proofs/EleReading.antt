@@ -26,13 +26,13 @@ use Rattle.tet_reader.specs.Answers.{HeadsEle, SpellMesh, Reads, SpelledBy}
 use Rattle.tet_reader.specs.declared.headers.EleHeader.{EleHeader}
 use Rattle.tet_reader.specs.declared.misfit.Misfit.{Misfit}
 use Rattle.tet_reader.proofs.HeaderTests.{ele_header_again, ele_counts}
-use Rattle.tet_reader.proofs.Lists.{cell_tests, cell_kind}
+use Rattle.tet_reader.proofs.Lists.{cell_tests, cell_kind, ele_takes, ele_again, one_cell_list}
 use Rattle.tet_reader.proofs.NodeReading.{behind}
 use Rattle.tet_reader.proofs.RowLists.{AllPass, rows_within, rows_again, numbered_length, first_number_fits}
 use Rattle.tet_reader.proofs.RowSteps.{row_fault, missing_fault}
-use Rattle.tet_reader.proofs.Tests.{each_none}
+use Rattle.tet_reader.proofs.Tests.{each_none, first_none}
 use Rattle.tet_reader.proofs.WholeFault.{misfit_fault, first_whole_fault}
-use Rattle.tet_reader.proofs.WholeMesh.{CellCorners, cells_corners, whole_takes, same_faults}
+use Rattle.tet_reader.proofs.WholeMesh.{CellCorners, cells_corners, whole_takes, whole_again, same_faults}
 
 -- the tests of the file are those of the header's counts
 ele_same : (points base last : ℕ) (header : Row) (others : List Row) (h : EleHeader) (own : ℕ) → IsEleHeader header.words h.cells h.attributes
@@ -189,3 +189,37 @@ mesh_read node_bytes ele_bytes node ele table result p q none points read =
         (e ∙ h.0, (table, subst (λ n. Points n.rows table.base table.list) p points, subst (λ n. SpellMesh table n mesh) q h.1))
     go (Err (Fault found)) e h = e ∙ h
     go (Err NoMemory) e h = tt
+
+-- Over points, an ele file has no fault exactly where it spells a mesh.
+pub mesh_takes_over : (table : PointTable) (ele : TextRows) → cells_fault (length table.list) table.base ele ≡ None
+    → (mesh : MeshLists) × SpellMesh table ele mesh
+mesh_takes_over table ele e =
+    let all = each_none (ele_fault (length table.list) table.base ele ∷ whole_tests table.base (drop 1 ele.rows)) e in
+    let cells = ele_takes table.list table.base ele.last_line ele.rows all.0 in
+    let corners = cells_corners ele.rows table.list table.base cells.0 cells.1 in
+    let together = whole_takes table.base (drop 1 ele.rows) all.1 in
+    let mesh : MeshLists = record { points = table.list; cells = cells.0; base = table.base } in
+    (mesh, made_mesh table ele cells.0 mesh refl cells.1 (record { each = corners.1; together = subst (λ l. FitTogether l) corners.0 together }))
+
+pub mesh_again_over : (table : PointTable) (ele : TextRows) (mesh : MeshLists) → SpellMesh table ele mesh
+    → cells_fault (length table.list) table.base ele ≡ None
+mesh_again_over table ele mesh s =
+    let corners = cells_corners ele.rows table.list table.base mesh.cells s.cells in
+    let whole = whole_again table.base (drop 1 ele.rows) (subst (λ l. FitTogether l) (sym corners.0) s.fits.together) in
+    let none = ele_again table.list table.base ele.last_line ele.rows mesh.cells s.cells in
+    first_none (ele_fault (length table.list) table.base ele ∷ whole_tests table.base (drop 1 ele.rows)) (none, whole)
+
+-- and one mesh
+pub one_mesh_over : (table : PointTable) (ele : TextRows) (mesh other : MeshLists) → SpellMesh table ele mesh → SpellMesh table ele other → mesh ≡ other
+one_mesh_over table ele mesh other s t =
+    let cells = one_cell_list ele.rows table.list table.base mesh.cells other.cells s.cells t.cells in
+    let points : mesh.points ≡ other.points = s.points_are ∙ sym t.points_are in
+    let base : mesh.base ≡ other.base = s.base_is ∙ sym t.base_is in
+    same_mesh mesh.points mesh.cells mesh.base other.points other.cells other.base points cells base
+  where
+    same_mesh : (p : List Point) (c : List RawCell) (b : ℕ) (p' : List Point) (c' : List RawCell) (b' : ℕ) → p ≡ p' → c ≡ c' → b ≡ b'
+        → ◌≡◌ {A = MeshLists} (record { points = p; cells = c; base = b }) (record { points = p'; cells = c'; base = b' })
+    same_mesh p c b p' c' b' x y z =
+        let one : ◌≡◌ {A = MeshLists} (record { points = p; cells = c; base = b }) (record { points = p'; cells = c; base = b }) = ap (λ l. record { points = l; cells = c; base = b }) x in
+        let two : ◌≡◌ {A = MeshLists} (record { points = p'; cells = c; base = b }) (record { points = p'; cells = c'; base = b }) = ap (λ l. record { points = p'; cells = l; base = b }) y in
+        one ∙ (two ∙ ap (λ l. record { points = p'; cells = c'; base = l }) z)

@@ -61,7 +61,7 @@ whole_takes base rows h =
     let third_count = along_length is_third [] cells ∙ count in
     (faults_take CellTwice twice rows twice_count parts.0, faults_take FaceShared third rows third_count parts.1)
 
-whole_again : (base : ℕ) (rows : List Row) → FitTogether (CornersOf base rows) → FindNone (whole_tests base rows)
+pub whole_again : (base : ℕ) (rows : List Row) → FitTogether (CornersOf base rows) → FindNone (whole_tests base rows)
 whole_again base rows h =
     let twice : List Bool = along comes_again [] (CornersOf base rows) in
     let third : List Bool = along is_third [] (CornersOf base rows) in

@@ -14,4 +14,4 @@ mod rows;
 pub use faults::NumberFault;
 pub use line_buf::LineBuf;
 pub use numbers::{millionths, whole};
-pub use rows::{Lines, Rows};
+pub use rows::{Lines, Rows, rows_of};

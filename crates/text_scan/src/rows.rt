@@ -119,8 +119,8 @@ impl Lines {
     }
 }
 
-/// The rows of a text.
-fn rows_of(alloc: Global, bytes: &[u8]) -> Result<Rows, NoMemory>
+/// The rows of a whole text of fewer than 2^32 bytes, as the scanner gives them whatever the pieces.
+pub fn rows_of(alloc: Global, bytes: &[u8]) -> Result<Rows, NoMemory>
     requires { length bytes.now < 2 ^ 32 }
     ensures { IfOk result (λ rows. rows ≡ text_rows bytes.now) }
 {
