@@ -1,4 +1,4 @@
-ghost use Rattle.std.specs.Prelude.{◌≡◌, ℕ, Some};
+ghost use Rattle.std.specs.Prelude.{◌≡◌, ℕ, ◌≤◌, Some, IfOk, length};
 ghost use Rattle.liszt_io.specs.Causes.{HasCause};
 ghost use Rattle.liszt_io.specs.Shelves.{Files};
 ghost use Rattle.liszt_io.specs.Sinks.{Writes};
@@ -17,6 +17,7 @@ pub fn read_whole<F: Shelf>(
 ) -> Result<ByteList, WholeFault>
     ensures held { F.held shelf.new ≡ F.held shelf.old }
     ensures cause { HasWholeCause (F.faults shelf.old) (F.faults shelf.new) result }
+    ensures short { IfOk result (λ bytes. length bytes ≤ limit) }
     ensures whole { (files : Files) → F.held shelf.old ≡ Some files
         → IsWhole files name.now limit result (F.tally shelf.old) (F.tally shelf.new) }
 {

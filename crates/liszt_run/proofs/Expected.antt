@@ -1,25 +1,26 @@
 -- What words and files come to is one outcome, and the top call's answer is it.
-use Rattle.std.proofs.Common.{◌≡◌, ℕ, inl, inr, List, length, Option, Some, None, MatchOption, Bool, true, false, nat_lt, refl, sym, ap, subst, ◌∙◌, arith, rules, ltb-false, ◌⊎◌, ◌≤◌}
+use Rattle.std.proofs.Common.{◌≡◌, ℕ, inl, inr, List, length, Option, Some, None, Result, Ok, Err, MatchOption, Bool, true, false, nat_lt, refl, sym, ap, subst, ◌∙◌, arith, rules, ltb-false, ltb-true, ◌<◌, ◌⊎◌, ◌≤◌}
 use Rattle.std.specs.Io.KnownBytes.{append_known}
 use Rattle.liszt_base.specs.declared.answers.Input.{Input}
 use Rattle.liszt_base.specs.declared.answers.Input.TheVariants.{Program, Node, Ele}
 use Rattle.liszt_parser.specs.declared.plain.Plain.{Plain}
 use Rattle.liszt_base.specs.declared.mesh.PointTable.{PointTable}
-use Rattle.liszt_base.specs.declared.mesh.RawCell.{RawCell}
 use Rattle.liszt_base.specs.MeshLists.{MeshLists}
-use Rattle.liszt_run.specs.Endings.{done_text}
+use Rattle.liszt_run.specs.Endings.{done_text, file_limit, too_long, mesh_ending}
 use Rattle.liszt_io.specs.Causes.{Rose}
 use Rattle.liszt_io.specs.Shelves.{Files, file, Tally}
-use Rattle.liszt_parser.specs.PlainProgram.{IsPlainProgram}
 use Rattle.liszt_parser.specs.PlainReading.{plain_at}
 use Rattle.liszt_parser.proofs.PlainLaws.{one_plain_program, taken_plain, again_plain}
-use Rattle.tet_reader.specs.PlainMesh.{IsPlainNode, IsPlainMeshOver}
-use Rattle.tet_reader.specs.Reading.{node_at, ele_at}
-use Rattle.tet_reader.proofs.PlainLaws.{one_table, one_mesh, node_takes, node_none, ele_takes, ele_none}
+use Rattle.liszt_base.specs.declared.answers.MeshFault.{MeshFault}
+use Rattle.liszt_base.specs.declared.mesh.Point.{Point}
+use Rattle.text_scan.specs.Rows.{text_rows}
+use Rattle.tet_reader.specs.Faults.{node_fault, cells_fault}
+use Rattle.tet_reader.proofs.Lists.{one_point_list, node_takes, node_again}
+use Rattle.tet_reader.proofs.EleReading.{mesh_takes_over, mesh_again_over, one_mesh_over}
 use Rattle.liszt_run.specs.declared.ended.Ended.{Ended}
-use Rattle.liszt_run.specs.declared.ended.Ended.TheVariants.{Done, Usage, Later, ReadFault, WriteFault, NoMemory}
+use Rattle.liszt_run.specs.declared.ended.Ended.TheVariants.{Done, Usage, Later, Mesh, Limit, ReadFault, WriteFault, NoMemory}
 use Rattle.liszt_run.specs.Commands.{command_of, SeqCommand}
-use Rattle.liszt_run.specs.Expected.{Outcome, refusal, file_limit, InForm, IsOutside, TakesIn, Finishes, TakesCells, TakesPoints, Seq, ComesTo, Expected}
+use Rattle.liszt_run.specs.Expected.{Outcome, refusal, Within, Follows, ProgramTells, NodeTells, EleTells, TakesIn, Finishes, TakesCells, TakesPoints, Seq, ComesTo, Expected}
 use Rattle.liszt_run.specs.Answers.{IsLost, EndsSo, Answers, HasCauses, IsOutcome}
 
 -- One outcome
@@ -27,38 +28,66 @@ use Rattle.liszt_run.specs.Answers.{IsLost, EndsSo, Answers, HasCauses, IsOutcom
 same_file : (files : Files) (name x y : List ℕ) → file files name ≡ Some x → file files name ≡ Some y → x ≡ y
 same_file files name x y e f = cc
 
--- no bytes are both outside a form and in it
-not_both : {A : Type 0} (Spells : List ℕ → A → Type 0) (x y : List ℕ) (value : A) → x ≡ y → IsOutside Spells x → InForm Spells y value → ⊥
-not_both Spells x y value e (inl long) within = omega (arith, within.0, ap length e)
-not_both Spells x y value e (inr none) within = none value (subst (λ (b : List ℕ). Spells b value) (sym e) within.1)
-
 abbrev IsOne : (Outcome → Type 0) → Type 0
 IsOne Comes = (a b : Outcome) → Comes a → Comes b → a ≡ b
 
-one_taken : {A : Type 0} (files : Files) (input : Input) (name : List ℕ) (Spells : List ℕ → A → Type 0) (GoesOn : A → Outcome → Type 0)
-    → ((bytes : List ℕ) (a b : A) → Spells bytes a → Spells bytes b → a ≡ b) → ((value : A) → IsOne (GoesOn value))
-    → IsOne (TakesIn (λ n. file files n ≡ None) files input name Spells GoesOn)
-one_taken files input name Spells GoesOn one rest a b (inl p) (inl q) = p.1 ∙ sym q.1
-one_taken files input name Spells GoesOn one rest a b (inl p) (inr (inl q)) = let n = p.0 in let s = q.1 in cc
-one_taken files input name Spells GoesOn one rest a b (inl p) (inr (inr q)) = let n = p.0 in let s = q.2 in cc
-one_taken files input name Spells GoesOn one rest a b (inr (inl p)) (inl q) = let n = q.0 in let s = p.1 in cc
-one_taken files input name Spells GoesOn one rest a b (inr (inl p)) (inr (inl q)) = p.3 ∙ sym q.3
-one_taken files input name Spells GoesOn one rest a b (inr (inl p)) (inr (inr q)) =
-    absurd (not_both Spells p.0 q.0 q.1 (same_file files name p.0 q.0 p.1 q.2) p.2 q.3)
-one_taken files input name Spells GoesOn one rest a b (inr (inr p)) (inl q) = let n = q.0 in let s = p.2 in cc
-one_taken files input name Spells GoesOn one rest a b (inr (inr p)) (inr (inl q)) =
-    absurd (not_both Spells q.0 p.0 p.1 (same_file files name q.0 p.0 q.1 p.2) q.2 p.3)
-one_taken {A} files input name Spells GoesOn one rest a b (inr (inr p)) (inr (inr q)) =
+-- bytes come to one thing
+abbrev TellsOne : {A : Type 0} → (List ℕ → Result A Ended → Type 0) → Type 0
+TellsOne {A} Tells = (bytes : List ℕ) (a b : Result A Ended) → Tells bytes a → Tells bytes b → a ≡ b
+
+one_within : {A : Type 0} (input : Input) (Tells : List ℕ → Result A Ended → Type 0) → TellsOne Tells → TellsOne (Within input Tells)
+one_within input Tells one bytes a b (inl p) (inl q) = p.1 ∙ sym q.1
+one_within input Tells one bytes a b (inl p) (inr q) = absurd (omega (arith, p.0, q.0))
+one_within input Tells one bytes a b (inr p) (inl q) = absurd (omega (arith, p.0, q.0))
+one_within input Tells one bytes a b (inr p) (inr q) = one bytes a b p.1 q.1
+
+one_follows : {A : Type 0} (GoesOn : A → Outcome → Type 0) (told : Result A Ended) → ((value : A) → IsOne (GoesOn value)) → IsOne (Follows GoesOn told)
+one_follows GoesOn (Ok value) rest a b p q = rest value a b p q
+one_follows GoesOn (Err ended) rest a b p q = p ∙ sym q
+
+one_taken : {A : Type 0} (files : Files) (input : Input) (name : List ℕ) (Tells : List ℕ → Result A Ended → Type 0) (GoesOn : A → Outcome → Type 0)
+    → TellsOne Tells → ((value : A) → IsOne (GoesOn value)) → IsOne (TakesIn (λ n. file files n ≡ None) files input name Tells GoesOn)
+one_taken files input name Tells GoesOn one rest a b (inl p) (inl q) = p.1 ∙ sym q.1
+one_taken files input name Tells GoesOn one rest a b (inl p) (inr q) = let n = p.0 in let s = q.2 in cc
+one_taken files input name Tells GoesOn one rest a b (inr p) (inl q) = let n = q.0 in let s = p.2 in cc
+one_taken {A} files input name Tells GoesOn one rest a b (inr p) (inr q) =
     let bytes : p.0 ≡ q.0 = same_file files name p.0 q.0 p.2 q.2 in
-    let value : p.1 ≡ q.1 = one q.0 p.1 q.1 (subst (λ (l : List ℕ). Spells l p.1) bytes p.3.1) q.3.1 in
-    rest q.1 a b (subst (λ (v : A). GoesOn v a) value p.4) q.4
+    let told : p.1 ≡ q.1 = one_within input Tells one q.0 p.1 q.1 (subst (λ (l : List ℕ). Within input Tells l p.1) bytes p.3) q.3 in
+    one_follows GoesOn q.1 rest a b (subst (λ (r : Result A Ended). Follows GoesOn r a) told p.4) q.4
+
+one_program : TellsOne ProgramTells
+one_program bytes (Ok p) (Ok q) h i = ap Ok (one_plain_program bytes p q h i)
+one_program bytes (Ok p) (Err e) h i = absurd (i.1 p h)
+one_program bytes (Err e) (Ok q) h i = absurd (h.1 q i)
+one_program bytes (Err e) (Err f) h i = ap Err (h.0 ∙ sym i.0)
+
+same_fault : (o : Option MeshFault) (f g : MeshFault) → o ≡ Some f → o ≡ Some g → f ≡ g
+same_fault o f g p q = cc
+
+same_table : (l m : List Point) (b c : ℕ) → l ≡ m → b ≡ c → ◌≡◌ {A = PointTable} (record { list = l; base = b }) (record { list = m; base = c })
+same_table l m b c p q = cc
+
+one_node : TellsOne NodeTells
+one_node bytes (Ok t) (Ok u) h i =
+    let same = one_point_list (text_rows bytes).rows t.base u.base t.list u.list h i in
+    ap Ok (same_table t.list u.list t.base u.base same.1 same.0)
+one_node bytes (Ok t) (Err e) h i = let none = node_again (text_rows bytes).last_line (text_rows bytes).rows t.base t.list h in let some = i.1 in cc
+one_node bytes (Err e) (Ok u) h i = let none = node_again (text_rows bytes).last_line (text_rows bytes).rows u.base u.list i in let some = h.1 in cc
+one_node bytes (Err e) (Err f) h i = ap Err (h.2 ∙ (ap mesh_ending (same_fault (node_fault (text_rows bytes)) h.0 i.0 h.1 i.1) ∙ sym i.2))
+
+one_ele : (table : PointTable) → TellsOne (EleTells table)
+one_ele table bytes (Ok m) (Ok n) h i = ap Ok (one_mesh_over table (text_rows bytes) m n h i)
+one_ele table bytes (Ok m) (Err e) h i = let none = mesh_again_over table (text_rows bytes) m h in let some = i.1 in cc
+one_ele table bytes (Err e) (Ok n) h i = let none = mesh_again_over table (text_rows bytes) n i in let some = h.1 in cc
+one_ele table bytes (Err e) (Err f) h i =
+    ap Err (h.2 ∙ (ap mesh_ending (same_fault (cells_fault (length table.list) table.base (text_rows bytes)) h.0 i.0 h.1 i.1) ∙ sym i.2))
 
 one_seq : (files : Files) (c : SeqCommand) → IsOne (Seq (λ n. file files n ≡ None) files c)
 one_seq files c =
     let Lost : List ℕ → Type 0 = λ n. file files n ≡ None in
-    one_taken files Program c.program IsPlainProgram (TakesPoints Lost files c) one_plain_program (λ program.
-    one_taken files Node c.node IsPlainNode (TakesCells Lost files c program) one_table (λ table.
-    one_taken files Ele c.ele (IsPlainMeshOver table) (Finishes program) (one_mesh table) (λ mesh a b p q. p ∙ sym q)))
+    one_taken files Program c.program ProgramTells (TakesPoints Lost files c) one_program (λ program.
+    one_taken files Node c.node NodeTells (TakesCells Lost files c program) one_node (λ table.
+    one_taken files Ele c.ele (EleTells table) (Finishes program) (one_ele table) (λ mesh a b p q. p ∙ sym q)))
 
 one_command : (files : Files) (o : Option SeqCommand)
     → IsOne (λ outcome. MatchOption o (outcome ≡ refusal Usage) (λ c. Seq (λ n. file files n ≡ None) files c outcome))
@@ -70,20 +99,26 @@ one_expected words files a b p q = one_command files (command_of words) a b p q
 
 -- Where nothing but strays came, a file is lost only where it is not held.
 
-kept_taken : {A : Type 0} (Lost Lost' : List ℕ → Type 0) (files : Files) (input : Input) (name : List ℕ) (Spells : List ℕ → A → Type 0) (GoesOn GoesOn' : A → Outcome → Type 0) (outcome : Outcome)
+-- what counts as lost may be more
+kept_follows : {A : Type 0} (GoesOn GoesOn' : A → Outcome → Type 0) (told : Result A Ended) (outcome : Outcome)
+    → ((value : A) → GoesOn value outcome → GoesOn' value outcome) → Follows GoesOn told outcome → Follows GoesOn' told outcome
+kept_follows GoesOn GoesOn' (Ok value) outcome rest p = rest value p
+kept_follows GoesOn GoesOn' (Err ended) outcome rest p = p
+
+kept_taken : {A : Type 0} (Lost Lost' : List ℕ → Type 0) (files : Files) (input : Input) (name : List ℕ) (Tells : List ℕ → Result A Ended → Type 0) (GoesOn GoesOn' : A → Outcome → Type 0) (outcome : Outcome)
     → ((n : List ℕ) → Lost n → Lost' n) → ((value : A) → GoesOn value outcome → GoesOn' value outcome)
-    → TakesIn Lost files input name Spells GoesOn outcome → TakesIn Lost' files input name Spells GoesOn' outcome
-kept_taken Lost Lost' files input name Spells GoesOn GoesOn' outcome lost rest (inl p) = inl (lost name p.0, p.1)
-kept_taken Lost Lost' files input name Spells GoesOn GoesOn' outcome lost rest (inr (inl p)) = inr (inl p)
-kept_taken Lost Lost' files input name Spells GoesOn GoesOn' outcome lost rest (inr (inr p)) = inr (inr (p.0, p.1, p.2, p.3, rest p.1 p.4))
+    → TakesIn Lost files input name Tells GoesOn outcome → TakesIn Lost' files input name Tells GoesOn' outcome
+kept_taken Lost Lost' files input name Tells GoesOn GoesOn' outcome lost rest (inl p) = inl (lost name p.0, p.1)
+kept_taken Lost Lost' files input name Tells GoesOn GoesOn' outcome lost rest (inr p) =
+    inr (p.0, p.1, p.2, p.3, kept_follows GoesOn GoesOn' p.1 outcome rest p.4)
 
 kept_command : (Lost Lost' : List ℕ → Type 0) (files : Files) (o : Option SeqCommand) (outcome : Outcome) → ((n : List ℕ) → Lost n → Lost' n)
     → MatchOption o (outcome ≡ refusal Usage) (λ c. Seq Lost files c outcome) → MatchOption o (outcome ≡ refusal Usage) (λ c. Seq Lost' files c outcome)
 kept_command Lost Lost' files None outcome lost p = p
 kept_command Lost Lost' files (Some c) outcome lost p =
-    kept_taken Lost Lost' files Program c.program IsPlainProgram (TakesPoints Lost files c) (TakesPoints Lost' files c) outcome lost (λ program.
-    kept_taken Lost Lost' files Node c.node IsPlainNode (TakesCells Lost files c program) (TakesCells Lost' files c program) outcome lost (λ table.
-    kept_taken Lost Lost' files Ele c.ele (IsPlainMeshOver table) (Finishes program) (Finishes program) outcome lost (λ mesh q. q))) p
+    kept_taken Lost Lost' files Program c.program ProgramTells (TakesPoints Lost files c) (TakesPoints Lost' files c) outcome lost (λ program.
+    kept_taken Lost Lost' files Node c.node NodeTells (TakesCells Lost files c program) (TakesCells Lost' files c program) outcome lost (λ table.
+    kept_taken Lost Lost' files Ele c.ele (EleTells table) (Finishes program) (Finishes program) outcome lost (λ mesh q. q))) p
 
 only_held : (files : Files) (before now : Tally) (name : List ℕ) → (Rose before.others now.others → ⊥) → IsLost files before now name → file files name ≡ None
 only_held files before now name none (inl p) = p
@@ -107,49 +142,69 @@ pub complete : (words : List (List ℕ)) (files : Files) (before now : Tally) (s
     → (Rose before.others now.others → ⊥) → (Rose sink sink' → ⊥) → IsOutcome outcome old new ended
 complete words files before now shelf shelf' sink sink' old new Done outcome a c x none whole = ends_so words files before now old new Done outcome none a x
 complete words files before now shelf shelf' sink sink' old new Usage outcome a c x none whole = ends_so words files before now old new Usage outcome none a x
-complete words files before now shelf shelf' sink sink' old new (Later i) outcome a c x none whole = ends_so words files before now old new (Later i) outcome none a x
+complete words files before now shelf shelf' sink sink' old new Later outcome a c x none whole = ends_so words files before now old new Later outcome none a x
+complete words files before now shelf shelf' sink sink' old new (Mesh f) outcome a c x none whole = ends_so words files before now old new (Mesh f) outcome none a x
+complete words files before now shelf shelf' sink sink' old new (Limit f) outcome a c x none whole = ends_so words files before now old new (Limit f) outcome none a x
 complete words files before now shelf shelf' sink sink' old new (ReadFault i) outcome a c x none whole = ends_so words files before now old new (ReadFault i) outcome none a x
 complete words files before now shelf shelf' sink sink' old new WriteFault outcome a c x none whole = absurd (whole c.1)
 complete words files before now shelf shelf' sink sink' old new NoMemory outcome a c x none whole = inr refl
 
 -- There is an outcome.
 
-reads_or_not : {A : Type 0} (Spells : List ℕ → A → Type 0) (bytes : List ℕ) → (((value : A) × Spells bytes value) ⊎ ((value : A) → Spells bytes value → ⊥))
-    → (long : Bool) → nat_lt file_limit (length bytes) ≡ long → ((value : A) × InForm Spells bytes value) ⊎ IsOutside Spells bytes
-reads_or_not Spells bytes known true is = inr (inl (search (rules, is)))
-reads_or_not Spells bytes (inl found) false is = let within : length bytes ≤ file_limit = ltb-false file_limit (length bytes) is in inl (found.0, (within, found.1))
-reads_or_not Spells bytes (inr none) false is = inr (inr none)
+-- bytes come to something
+abbrev TellsSome : {A : Type 0} → (List ℕ → Result A Ended → Type 0) → Type 0
+TellsSome {A} Tells = (bytes : List ℕ) → (told : Result A Ended) × Tells bytes told
 
-some_taken : {A : Type 0} (files : Files) (input : Input) (name : List ℕ) (Spells : List ℕ → A → Type 0) (GoesOn : A → Outcome → Type 0) (held : Option (List ℕ))
-    → ((bytes : List ℕ) → ((value : A) × Spells bytes value) ⊎ ((value : A) → Spells bytes value → ⊥)) → ((value : A) → (outcome : Outcome) × GoesOn value outcome)
-    → file files name ≡ held → (outcome : Outcome) × TakesIn (λ n. file files n ≡ None) files input name Spells GoesOn outcome
-some_taken {A = A} files input name Spells GoesOn None decide rest is = (refusal (ReadFault input), inl (is, refl))
-some_taken {A = A} files input name Spells GoesOn (Some bytes) decide rest is = go (reads_or_not Spells bytes (decide bytes) (nat_lt file_limit (length bytes)) refl) where
-  go : ((value : A) × InForm Spells bytes value) ⊎ IsOutside Spells bytes → (outcome : Outcome) × TakesIn (λ n. file files n ≡ None) files input name Spells GoesOn outcome
-  go (inl form) = let more = rest form.0 in (more.0, inr (inr (bytes, form.0, is, form.1, more.1)))
-  go (inr outside) = (refusal (Later input), inr (inl (bytes, is, outside, refl)))
+some_within : {A : Type 0} (input : Input) (Tells : List ℕ → Result A Ended → Type 0) → TellsSome Tells → TellsSome (Within input Tells)
+some_within {A} input Tells some bytes = go (nat_lt file_limit (length bytes)) refl
+  where
+    go : (long : Bool) → nat_lt file_limit (length bytes) ≡ long → (told : Result A Ended) × Within input Tells bytes told
+    go true is = (Err (too_long input), inl (ltb-true file_limit (length bytes) is, refl))
+    go false is = let told = some bytes in (told.0, inr (ltb-false file_limit (length bytes) is, told.1))
 
-decide_program : (bytes : List ℕ) (read : Option Plain) → plain_at bytes ≡ read → ((p : Plain) × IsPlainProgram bytes p) ⊎ ((p : Plain) → IsPlainProgram bytes p → ⊥)
-decide_program bytes (Some p) is = inl (p, taken_plain bytes p is)
-decide_program bytes None is = inr (λ p s. let again = again_plain bytes p s in cc)
+some_follows : {A : Type 0} (GoesOn : A → Outcome → Type 0) (told : Result A Ended) → ((value : A) → (outcome : Outcome) × GoesOn value outcome)
+    → (outcome : Outcome) × Follows GoesOn told outcome
+some_follows GoesOn (Ok value) rest = rest value
+some_follows GoesOn (Err ended) rest = (refusal ended, refl)
 
-decide_node : (bytes : List ℕ) (read : Option PointTable) → node_at bytes ≡ read → ((t : PointTable) × IsPlainNode bytes t) ⊎ ((t : PointTable) → IsPlainNode bytes t → ⊥)
-decide_node bytes (Some t) is = inl (t, node_takes bytes t is)
-decide_node bytes None is = inr (node_none bytes (sym is))
+some_taken : {A : Type 0} (files : Files) (input : Input) (name : List ℕ) (Tells : List ℕ → Result A Ended → Type 0) (GoesOn : A → Outcome → Type 0) (held : Option (List ℕ))
+    → TellsSome Tells → ((value : A) → (outcome : Outcome) × GoesOn value outcome)
+    → file files name ≡ held → (outcome : Outcome) × TakesIn (λ n. file files n ≡ None) files input name Tells GoesOn outcome
+some_taken files input name Tells GoesOn None some rest is = (refusal (ReadFault input), inl (is, refl))
+some_taken files input name Tells GoesOn (Some bytes) some rest is =
+    let told = some_within input Tells some bytes in
+    let more = some_follows GoesOn told.0 rest in
+    (more.0, inr (bytes, told.0, is, told.1, more.1))
 
-decide_ele : (table : PointTable) (bytes : List ℕ) (read : Option (List RawCell)) → ele_at table.base (length table.list) bytes ≡ read
-    → ((m : MeshLists) × IsPlainMeshOver table bytes m) ⊎ ((m : MeshLists) → IsPlainMeshOver table bytes m → ⊥)
-decide_ele table bytes (Some cells) is = inl (record { points = table.list; cells = cells; base = table.base }, (refl, refl, ele_takes table.base (length table.list) bytes cells is))
-decide_ele table bytes None is = inr (ele_none table bytes (sym is))
+some_program : TellsSome ProgramTells
+some_program bytes = go (plain_at bytes) refl
+  where
+    go : (read : Option Plain) → plain_at bytes ≡ read → (told : Result Plain Ended) × ProgramTells bytes told
+    go (Some p) is = (Ok p, taken_plain bytes p is)
+    go None is = (Err Later, (refl, λ p s. let again = again_plain bytes p s in cc))
+
+some_node : TellsSome NodeTells
+some_node bytes = go (node_fault (text_rows bytes)) refl
+  where
+    go : (fault : Option MeshFault) → node_fault (text_rows bytes) ≡ fault → (told : Result PointTable Ended) × NodeTells bytes told
+    go None is = let p = node_takes (text_rows bytes).last_line (text_rows bytes).rows is in (Ok (record { list = p.1; base = p.0 }), p.2)
+    go (Some f) is = (Err (mesh_ending f), (f, is, refl))
+
+some_ele : (table : PointTable) → TellsSome (EleTells table)
+some_ele table bytes = go (cells_fault (length table.list) table.base (text_rows bytes)) refl
+  where
+    go : (fault : Option MeshFault) → cells_fault (length table.list) table.base (text_rows bytes) ≡ fault → (told : Result MeshLists Ended) × EleTells table bytes told
+    go None is = let m = mesh_takes_over table (text_rows bytes) is in (Ok m.0, m.1)
+    go (Some f) is = (Err (mesh_ending f), (f, is, refl))
 
 some_command : (files : Files) (o : Option SeqCommand)
     → (outcome : Outcome) × MatchOption o (outcome ≡ refusal Usage) (λ c. Seq (λ n. file files n ≡ None) files c outcome)
 some_command files None = (refusal Usage, refl)
 some_command files (Some c) =
     let Lost : List ℕ → Type 0 = λ n. file files n ≡ None in
-    some_taken files Program c.program IsPlainProgram (TakesPoints Lost files c) (file files c.program) (λ bytes. decide_program bytes (plain_at bytes) refl) (λ program.
-    some_taken files Node c.node IsPlainNode (TakesCells Lost files c program) (file files c.node) (λ bytes. decide_node bytes (node_at bytes) refl) (λ table.
-    some_taken files Ele c.ele (IsPlainMeshOver table) (Finishes program) (file files c.ele) (λ bytes. decide_ele table bytes (ele_at table.base (length table.list) bytes) refl)
+    some_taken files Program c.program ProgramTells (TakesPoints Lost files c) (file files c.program) some_program (λ program.
+    some_taken files Node c.node NodeTells (TakesCells Lost files c program) (file files c.node) some_node (λ table.
+    some_taken files Ele c.ele (EleTells table) (Finishes program) (file files c.ele) (some_ele table)
     (λ mesh. (record { ended = Done; text = done_text program mesh }, refl))
     refl) refl) refl
 

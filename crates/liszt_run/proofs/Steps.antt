@@ -13,64 +13,89 @@ use Rattle.liszt_io.specs.Causes.{HasCause}
 use Rattle.liszt_io.specs.Sinks.{IsFrontTaken, Writes}
 use Rattle.liszt_io.specs.Shelves.{Files, Tally, FailsAt}
 use Rattle.liszt_parser.specs.declared.plain.Plain.{Plain}
-use Rattle.liszt_parser.specs.PlainProgram.{IsPlainProgram}
-use Rattle.tet_reader.specs.PlainMesh.{IsPlainNode, IsPlainMeshOver}
 use Rattle.liszt_run.specs.declared.ended.Ended.{Ended}
-use Rattle.liszt_run.specs.declared.ended.Ended.TheVariants.{Done, Usage, Later, ReadFault, WriteFault, NoMemory}
+use Rattle.liszt_run.specs.declared.ended.Ended.TheVariants.{Done, Usage, Later, Mesh, Limit, ReadFault, WriteFault, NoMemory}
 use Rattle.liszt_run.specs.declared.inputs.Job.{Job}
 use Rattle.liszt_run.specs.Commands.{command_of, SeqCommand}
-use Rattle.liszt_run.specs.Endings.{refusal_text, done_text, field_text}
-use Rattle.liszt_run.specs.Expected.{Outcome, refusal, file_limit, IsOutside, TakesIn, Finishes, TakesCells, TakesPoints, Seq, ComesTo}
-use Rattle.liszt_run.specs.Answers.{IsLost, Answers, Wrote, HasCauses, HasStepCause, StepGives, SpellsItself, Refuses, Prepares, job_text}
+use Rattle.liszt_run.specs.Endings.{refusal_text, done_text, field_text, too_long}
+use Rattle.liszt_run.specs.Expected.{Outcome, refusal, Within, ProgramTells, NodeTells, EleTells, TakesIn, Finishes, TakesCells, TakesPoints, Seq, ComesTo}
+use Rattle.liszt_run.specs.Answers.{IsLost, Answers, Wrote, HasCauses, HasShelfCause, HasStepCause, IsFileFault, StepGives, Prepares, job_text}
 
--- From the bytes of an input to what they spell
+-- From the bytes of an input to what they come to
 
-itself : (bytes : List ℕ) → IsOutside SpellsItself bytes → file_limit < length bytes
-itself bytes (inl long) = long
-itself bytes (inr none) = absurd (none bytes refl)
+err_is : {A : Type 0} (x y : Ended) → ◌≡◌ {A = Result A Ended} (Err x) (Err y) → x ≡ y
+err_is x y e = cc
 
-pub step_refused : {A : Type 0} (files : Files) (input : Input) (name : List ℕ) (Spells : List ℕ → A → Type 0) (before now : Tally) (ended : Ended)
-    → StepGives files input name SpellsItself before now (Err ended) → StepGives files input name Spells before now (Err ended)
-step_refused files input name Spells before now (ReadFault x) h = h
-step_refused files input name Spells before now (Later x) h = (h.0, h.1, h.2, inl (itself h.1 h.3))
-step_refused files input name Spells before now NoMemory h = tt
-step_refused files input name Spells before now Usage h = h
-step_refused files input name Spells before now Done h = h
-step_refused files input name Spells before now WriteFault h = h
+-- a refusal of the bytes alone is one of whatever they should come to
+pub step_refused : {A B : Type 0} (files : Files) (input : Input) (name : List ℕ) (Tells : List ℕ → Result A Ended → Type 0) (Itself : List ℕ → Result B Ended → Type 0)
+    (before now : Tally) (ended : Ended) → ((bytes : List ℕ) (e : Ended) → Itself bytes (Err e) → ⊥)
+    → StepGives files input name Itself before now (Err ended) → StepGives files input name Tells before now (Err ended)
+step_refused files input name Tells Itself before now ended none (inl memory) = inl memory
+step_refused files input name Tells Itself before now ended none (inr (inl lost)) = inr (inl lost)
+step_refused files input name Tells Itself before now ended none (inr (inr h)) = inr (inr (h.0, h.1, go h.2))
+  where
+    go : Within input Itself h.0 (Err ended) → Within input Tells h.0 (Err ended)
+    go (inl long) = inl (long.0, ap (λ (e : Ended). Err e) (err_is ended (too_long input) long.1))
+    go (inr w) = absurd (none h.0 ended w.1)
 
-pub step_spelled : {A : Type 0} (files : Files) (input : Input) (name : List ℕ) (Spells : List ℕ → A → Type 0) (before now : Tally) (bytes seen : List ℕ) (value : A)
-    → StepGives files input name SpellsItself before now (Ok bytes) → seen ≡ bytes → Spells seen value → StepGives files input name Spells before now (Ok value)
-step_spelled files input name Spells before now bytes seen value h is spells =
-    (h.0, h.1, (h.2.0, subst (λ (b : List ℕ). Spells b value) (is ∙ h.2.1) spells), h.3)
+-- the value of bytes within the limit, and their fault
+pub step_value : {A B : Type 0} (files : Files) (input : Input) (name : List ℕ) (Tells : List ℕ → Result A Ended → Type 0) (Itself : List ℕ → Result B Ended → Type 0)
+    (before now : Tally) (seen : B) (value : A) → StepGives files input name Itself before now (Ok seen)
+    → ((bytes : List ℕ) → Itself bytes (Ok seen) → Tells bytes (Ok value)) → StepGives files input name Tells before now (Ok value)
+step_value files input name Tells Itself before now seen value h more = (h.0, h.1, go h.2, h.3)
+  where
+    go : Within input Itself h.0 (Ok seen) → Within input Tells h.0 (Ok value)
+    go (inl long) = let no : Ok seen ≡ Err (too_long input) = long.1 in cc
+    go (inr w) = inr (w.0, more h.0 w.1)
 
-pub step_outside : {A : Type 0} (files : Files) (input : Input) (name : List ℕ) (Spells : List ℕ → A → Type 0) (before now : Tally) (bytes seen : List ℕ)
-    → StepGives files input name SpellsItself before now (Ok bytes) → seen ≡ bytes → ((value : A) → Spells seen value → ⊥) → StepGives files input name Spells before now (Err (Later input))
-step_outside files input name Spells before now bytes seen h is none =
-    (refl, h.0, h.1, inr (λ value spells. none value (subst (λ (b : List ℕ). Spells b value) (sym (is ∙ h.2.1)) spells)))
+pub step_fault : {A B : Type 0} (files : Files) (input : Input) (name : List ℕ) (Tells : List ℕ → Result A Ended → Type 0) (Itself : List ℕ → Result B Ended → Type 0)
+    (before now : Tally) (seen : B) (ended : Ended) → StepGives files input name Itself before now (Ok seen)
+    → ((bytes : List ℕ) → Itself bytes (Ok seen) → Tells bytes (Err ended)) → StepGives files input name Tells before now (Err ended)
+step_fault files input name Tells Itself before now seen ended h more = inr (inr (h.0, h.1, go h.2))
+  where
+    go : Within input Itself h.0 (Ok seen) → Within input Tells h.0 (Err ended)
+    go (inl long) = let no : Ok seen ≡ Err (too_long input) = long.1 in cc
+    go (inr w) = inr (w.0, more h.0 w.1)
+
+-- a file's fault leaves the shelf's count, and is no usage
+pub quiet : {A : Type 0} (before now : ℕ) (ended : Ended) → IsFileFault ended → now ≡ before → HasStepCause {A = A} before now (Err ended)
+quiet before now Later f h = h
+quiet before now (Mesh fault) f h = h
+quiet before now (Limit fault) f h = h
+quiet before now Done f h = absurd f
+quiet before now Usage f h = absurd f
+quiet before now (ReadFault x) f h = absurd f
+quiet before now WriteFault f h = absurd f
+quiet before now NoMemory f h = absurd f
+
+pub not_usage : {A : Type 0} (ended : Ended) → IsFileFault ended → ◌≡◌ {A = Result A Ended} (Err ended) (Err Usage) → ⊥
+not_usage Later f e = cc
+not_usage (Mesh fault) f e = cc
+not_usage (Limit fault) f e = cc
+not_usage Done f e = absurd f
+not_usage Usage f e = absurd f
+not_usage (ReadFault x) f e = absurd f
+not_usage WriteFault f e = absurd f
+not_usage NoMemory f e = absurd f
 
 -- From the steps to the command
 
-taken_refused : {A : Type 0} (files : Files) (input : Input) (name : List ℕ) (Spells : List ℕ → A → Type 0) (GoesOn : A → Outcome → Type 0) (before now : Tally) (ended : Ended)
-    → StepGives files input name Spells before now (Err ended) → Refuses (TakesIn (IsLost files before now) files input name Spells GoesOn) ended
-taken_refused files input name Spells GoesOn before now (ReadFault x) h = inl (h.1, ap (λ i. refusal (ReadFault i)) h.0)
-taken_refused files input name Spells GoesOn before now (Later x) h = inr (inl (h.1, h.2, h.3, ap (λ i. refusal (Later i)) h.0))
-taken_refused files input name Spells GoesOn before now NoMemory h = tt
-taken_refused files input name Spells GoesOn before now Usage h = absurd h
-taken_refused files input name Spells GoesOn before now Done h = h
-taken_refused files input name Spells GoesOn before now WriteFault h = h
+-- an input is refused
+taken_refused : {A : Type 0} (files : Files) (input : Input) (name : List ℕ) (Tells : List ℕ → Result A Ended → Type 0) (GoesOn : A → Outcome → Type 0) (before now : Tally) (ended : Ended)
+    → StepGives files input name Tells before now (Err ended) → (ended ≡ NoMemory) ⊎ TakesIn (IsLost files before now) files input name Tells GoesOn (refusal ended)
+taken_refused files input name Tells GoesOn before now ended (inl memory) = inl memory
+taken_refused files input name Tells GoesOn before now ended (inr (inl lost)) = inr (inl (lost.1, ap refusal lost.0))
+taken_refused files input name Tells GoesOn before now ended (inr (inr h)) = inr (inr (h.0, Err ended, h.1, h.2, refl))
 
 -- the input is in its form, and what follows comes to the outcome
-taken_goes_on : {A : Type 0} (Lost : List ℕ → Type 0) (files : Files) (input : Input) (name : List ℕ) (Spells : List ℕ → A → Type 0) (GoesOn : A → Outcome → Type 0) (before now : Tally) (value : A) (outcome : Outcome)
-    → StepGives files input name Spells before now (Ok value) → GoesOn value outcome → TakesIn Lost files input name Spells GoesOn outcome
-taken_goes_on Lost files input name Spells GoesOn before now value outcome h rest = inr (inr (h.0, value, h.1, h.2, rest))
+taken_goes_on : {A : Type 0} (Lost : List ℕ → Type 0) (files : Files) (input : Input) (name : List ℕ) (Tells : List ℕ → Result A Ended → Type 0) (GoesOn : A → Outcome → Type 0) (before now : Tally) (value : A) (outcome : Outcome)
+    → StepGives files input name Tells before now (Ok value) → GoesOn value outcome → TakesIn Lost files input name Tells GoesOn outcome
+taken_goes_on Lost files input name Tells GoesOn before now value outcome h rest = inr (h.0, Ok value, h.1, h.2, rest)
 
-refused_goes_on : (Comes Comes' : Outcome → Type 0) (ended : Ended) → ((outcome : Outcome) → Comes outcome → Comes' outcome) → Refuses Comes ended → Refuses Comes' ended
-refused_goes_on Comes Comes' (ReadFault x) more h = more (refusal (ReadFault x)) h
-refused_goes_on Comes Comes' (Later x) more h = more (refusal (Later x)) h
-refused_goes_on Comes Comes' Usage more h = more (refusal Usage) h
-refused_goes_on Comes Comes' NoMemory more h = tt
-refused_goes_on Comes Comes' Done more h = h
-refused_goes_on Comes Comes' WriteFault more h = h
+refused_goes_on : (Comes Comes' : Outcome → Type 0) (ended : Ended) → ((outcome : Outcome) → Comes outcome → Comes' outcome)
+    → (ended ≡ NoMemory) ⊎ Comes (refusal ended) → (ended ≡ NoMemory) ⊎ Comes' (refusal ended)
+refused_goes_on Comes Comes' ended more (inl memory) = inl memory
+refused_goes_on Comes Comes' ended more (inr h) = inr (more (refusal ended) h)
 
 named : (Lost : List ℕ → Type 0) (words : List (List ℕ)) (files : Files) (c : SeqCommand) (outcome : Outcome) → command_of words ≡ Some c → Seq Lost files c outcome → ComesTo Lost words files outcome
 named Lost words files c outcome is h =
@@ -84,32 +109,32 @@ abbrev done_with : List ℕ → Outcome
 done_with text = record { ended = Done; text = text }
 
 pub program_refused : (words : List (List ℕ)) (files : Files) (c : SeqCommand) (before now : Tally) (ended : Ended) → command_of words ≡ Some c
-    → StepGives files Program c.program IsPlainProgram before now (Err ended) → Prepares words files before now (Err ended)
+    → StepGives files Program c.program ProgramTells before now (Err ended) → Prepares words files before now (Err ended)
 program_refused words files c before now ended is first =
     let Lost : List ℕ → Type 0 = IsLost files before now in
     refused_goes_on (Seq Lost files c) (ComesTo Lost words files) ended (λ outcome. named Lost words files c outcome is)
-    (taken_refused files Program c.program IsPlainProgram (TakesPoints Lost files c) before now ended first)
+    (taken_refused files Program c.program ProgramTells (TakesPoints Lost files c) before now ended first)
 
 pub node_refused : (words : List (List ℕ)) (files : Files) (c : SeqCommand) (program : Plain) (before t now : Tally) (ended : Ended) → command_of words ≡ Some c
-    → StepGives files Program c.program IsPlainProgram before t (Ok program) → StepGives files Node c.node IsPlainNode t now (Err ended) → Prepares words files before now (Err ended)
+    → StepGives files Program c.program ProgramTells before t (Ok program) → StepGives files Node c.node NodeTells t now (Err ended) → Prepares words files before now (Err ended)
 node_refused words files c program before t now ended is first second =
     let Lost : List ℕ → Type 0 = IsLost files before now in
-    let second' = subst (λ (s : Tally). StepGives files Node c.node IsPlainNode s now (Err ended)) first.3 second in
+    let second' = subst (λ (s : Tally). StepGives files Node c.node NodeTells s now (Err ended)) first.3 second in
     refused_goes_on (TakesPoints Lost files c program) (ComesTo Lost words files) ended
-    (λ outcome h. named Lost words files c outcome is (taken_goes_on Lost files Program c.program IsPlainProgram (TakesPoints Lost files c) before t program outcome first h))
-    (taken_refused files Node c.node IsPlainNode (TakesCells Lost files c program) before now ended second')
+    (λ outcome h. named Lost words files c outcome is (taken_goes_on Lost files Program c.program ProgramTells (TakesPoints Lost files c) before t program outcome first h))
+    (taken_refused files Node c.node NodeTells (TakesCells Lost files c program) before now ended second')
 
 pub ele_refused : (words : List (List ℕ)) (files : Files) (c : SeqCommand) (program : Plain) (table : PointTable) (before t u now : Tally) (ended : Ended) → command_of words ≡ Some c
-    → StepGives files Program c.program IsPlainProgram before t (Ok program) → StepGives files Node c.node IsPlainNode t u (Ok table)
-    → StepGives files Ele c.ele (IsPlainMeshOver table) u now (Err ended) → Prepares words files before now (Err ended)
+    → StepGives files Program c.program ProgramTells before t (Ok program) → StepGives files Node c.node NodeTells t u (Ok table)
+    → StepGives files Ele c.ele (EleTells table) u now (Err ended) → Prepares words files before now (Err ended)
 ele_refused words files c program table before t u now ended is first second third =
     let Lost : List ℕ → Type 0 = IsLost files before now in
-    let third' = subst (λ (s : Tally). StepGives files Ele c.ele (IsPlainMeshOver table) s now (Err ended)) (second.3 ∙ first.3) third in
+    let third' = subst (λ (s : Tally). StepGives files Ele c.ele (EleTells table) s now (Err ended)) (second.3 ∙ first.3) third in
     refused_goes_on (TakesCells Lost files c program table) (ComesTo Lost words files) ended
     (λ outcome h. named Lost words files c outcome is
-    (taken_goes_on Lost files Program c.program IsPlainProgram (TakesPoints Lost files c) before t program outcome first
-    (taken_goes_on Lost files Node c.node IsPlainNode (TakesCells Lost files c program) t u table outcome second h)))
-    (taken_refused files Ele c.ele (IsPlainMeshOver table) (Finishes program) before now ended third')
+    (taken_goes_on Lost files Program c.program ProgramTells (TakesPoints Lost files c) before t program outcome first
+    (taken_goes_on Lost files Node c.node NodeTells (TakesCells Lost files c program) t u table outcome second h)))
+    (taken_refused files Ele c.ele (EleTells table) (Finishes program) before now ended third')
 
 -- the lines of a job are the text of its program on its mesh
 pub job_text_is : (program : Plain) (mesh : MeshLists) (job : Job) → job.name ≡ program.name → job.value ≡ program.first +ℤ program.add → job.mesh ≡ mesh
@@ -120,8 +145,8 @@ job_text_is program mesh job name value same =
     ∙ ap (λ (m : MeshLists). field_text (program.name ∷ []) (λ _. program.first +ℤ program.add) (length m.cells)) same
 
 pub all_taken : (words : List (List ℕ)) (files : Files) (c : SeqCommand) (program : Plain) (table : PointTable) (mesh : MeshLists) (job : Job) (before t u now : Tally) → command_of words ≡ Some c
-    → StepGives files Program c.program IsPlainProgram before t (Ok program) → StepGives files Node c.node IsPlainNode t u (Ok table)
-    → StepGives files Ele c.ele (IsPlainMeshOver table) u now (Ok mesh)
+    → StepGives files Program c.program ProgramTells before t (Ok program) → StepGives files Node c.node NodeTells t u (Ok table)
+    → StepGives files Ele c.ele (EleTells table) u now (Ok mesh)
     → job.name ≡ program.name → job.value ≡ program.first +ℤ program.add → job.mesh ≡ mesh → Prepares words files before now (Ok job)
 all_taken words files c program table mesh job before t u now is first second third name value same =
     let Lost : List ℕ → Type 0 = IsLost files before now in
@@ -129,9 +154,9 @@ all_taken words files c program table mesh job before t u now is first second th
     let outcome : Outcome = record { ended = Done; text = job_text job } in
     let finishes : Finishes program mesh outcome = ap done_with text in
     named Lost words files c outcome is
-    (taken_goes_on Lost files Program c.program IsPlainProgram (TakesPoints Lost files c) before t program outcome first
-    (taken_goes_on Lost files Node c.node IsPlainNode (TakesCells Lost files c program) t u table outcome second
-    (taken_goes_on Lost files Ele c.ele (IsPlainMeshOver table) (Finishes program) u now mesh outcome third finishes)))
+    (taken_goes_on Lost files Program c.program ProgramTells (TakesPoints Lost files c) before t program outcome first
+    (taken_goes_on Lost files Node c.node NodeTells (TakesCells Lost files c program) t u table outcome second
+    (taken_goes_on Lost files Ele c.ele (EleTells table) (Finishes program) u now mesh outcome third finishes)))
 
 -- a failed file is a lost one
 pub lost_at : (files : Files) (name : List ℕ) (before now : Tally) → FailsAt files name before now → IsLost files before now name
@@ -165,30 +190,47 @@ told_job words files before now shelf shelf' old new job (Err _) ended comes sam
 
 -- a refusal whose line was written is the answer
 refused : (words : List (List ℕ)) (files : Files) (before now : Tally) (shelf shelf' : ℕ) (old new : Option (List ℕ)) (ended : Ended)
-    → Refuses (ComesTo (IsLost files before now) words files) ended → new ≡ append_known old (refusal_text ended) → Answers words files before now shelf shelf' old new ended
-refused words files before now shelf shelf' old new (ReadFault x) comes taken = (refusal_text (ReadFault x), comes, taken)
-refused words files before now shelf shelf' old new (Later x) comes taken = (refusal_text (Later x), comes, taken)
-refused words files before now shelf shelf' old new Usage comes taken = (refusal_text Usage, comes, taken)
-refused words files before now shelf shelf' old new NoMemory comes taken = taken
-refused words files before now shelf shelf' old new Done comes taken = absurd comes
-refused words files before now shelf shelf' old new WriteFault comes taken = absurd comes
+    → (ended ≡ NoMemory) ⊎ ComesTo (IsLost files before now) words files (refusal ended) → HasStepCause {A = Job} shelf shelf' (Err ended)
+    → new ≡ append_known old (refusal_text ended) → Answers words files before now shelf shelf' old new ended
+refused words files before now shelf shelf' old new NoMemory comes can taken = taken
+refused words files before now shelf shelf' old new Done comes can taken = absurd can
+refused words files before now shelf shelf' old new WriteFault comes can taken = absurd can
+refused words files before now shelf shelf' old new Usage (inl memory) can taken = cc
+refused words files before now shelf shelf' old new Usage (inr comes) can taken = (refusal_text Usage, comes, taken)
+refused words files before now shelf shelf' old new Later (inl memory) can taken = cc
+refused words files before now shelf shelf' old new Later (inr comes) can taken = (refusal_text Later, comes, taken)
+refused words files before now shelf shelf' old new (Mesh fault) (inl memory) can taken = cc
+refused words files before now shelf shelf' old new (Mesh fault) (inr comes) can taken = (refusal_text (Mesh fault), comes, taken)
+refused words files before now shelf shelf' old new (Limit fault) (inl memory) can taken = cc
+refused words files before now shelf shelf' old new (Limit fault) (inr comes) can taken = (refusal_text (Limit fault), comes, taken)
+refused words files before now shelf shelf' old new (ReadFault x) (inl memory) can taken = cc
+refused words files before now shelf shelf' old new (ReadFault x) (inr comes) can taken = (refusal_text (ReadFault x), comes, taken)
+
+-- the count behind a refusal
+shelf_cause : (shelf shelf' : ℕ) (ended : Ended) → HasStepCause {A = Job} shelf shelf' (Err ended) → HasShelfCause shelf shelf' ended
+shelf_cause shelf shelf' (ReadFault x) h = h
+shelf_cause shelf shelf' Done h = absurd h
+shelf_cause shelf shelf' WriteFault h = absurd h
+shelf_cause shelf shelf' Usage h = h
+shelf_cause shelf shelf' Later h = h
+shelf_cause shelf shelf' (Mesh fault) h = h
+shelf_cause shelf shelf' (Limit fault) h = h
+shelf_cause shelf shelf' NoMemory h = h
 
 -- and one whose line was not is what was being written
 unwritten : (words : List (List ℕ)) (files : Files) (before now : Tally) (shelf shelf' : ℕ) (old new : Option (List ℕ)) (ended : Ended)
-    → Refuses (ComesTo (IsLost files before now) words files) ended → HasStepCause {A = Job} shelf shelf' (Err ended) → IsFrontTaken old new (refusal_text ended)
-    → Answers words files before now shelf shelf' old new WriteFault
-unwritten words files before now shelf shelf' old new (ReadFault x) comes cause front = (refusal (ReadFault x), inl comes, front, cause)
-unwritten words files before now shelf shelf' old new (Later x) comes cause front = (refusal (Later x), inl comes, front, cause)
-unwritten words files before now shelf shelf' old new Usage comes cause front = (refusal Usage, inl comes, front, cause)
-unwritten words files before now shelf shelf' old new NoMemory comes cause front = (refusal NoMemory, inr refl, front, cause)
-unwritten words files before now shelf shelf' old new Done comes cause front = absurd comes
-unwritten words files before now shelf shelf' old new WriteFault comes cause front = absurd comes
+    → (ended ≡ NoMemory) ⊎ ComesTo (IsLost files before now) words files (refusal ended) → HasStepCause {A = Job} shelf shelf' (Err ended)
+    → IsFrontTaken old new (refusal_text ended) → Answers words files before now shelf shelf' old new WriteFault
+unwritten words files before now shelf shelf' old new ended (inl memory) cause front =
+    (refusal ended, inr (ap refusal memory), front, shelf_cause shelf shelf' ended cause)
+unwritten words files before now shelf shelf' old new ended (inr comes) cause front =
+    (refusal ended, inl comes, front, shelf_cause shelf shelf' ended cause)
 
 pub told_refusal : (words : List (List ℕ)) (files : Files) (before now : Tally) (shelf shelf' : ℕ) (old new : Option (List ℕ)) (known : Ended) (written : Result Unit Unwritten) (ended : Ended)
     → Prepares words files before now (Err known) → HasStepCause {A = Job} shelf shelf' (Err known) → Writes (refusal_text known) old new written
     → MatchResult written (λ _. ended ≡ known) (λ _. ended ≡ WriteFault) → Answers words files before now shelf shelf' old new ended
 told_refusal words files before now shelf shelf' old new known (Ok _) ended comes cause taken is =
-    subst (Answers words files before now shelf shelf' old new) (sym is) (refused words files before now shelf shelf' old new known comes taken)
+    subst (Answers words files before now shelf shelf' old new) (sym is) (refused words files before now shelf shelf' old new known comes cause taken)
 told_refusal words files before now shelf shelf' old new known (Err _) ended comes cause front is =
     subst (Answers words files before now shelf shelf' old new) (sym is) (unwritten words files before now shelf shelf' old new known comes cause front)
 
@@ -213,7 +255,9 @@ wrote_job words old new text program mesh (Err _) ended some is front ends =
 
 wrote_line : (words : List (List ℕ)) (shelf shelf' : ℕ) (old new : Option (List ℕ)) (known : Ended) → HasStepCause {A = Job} shelf shelf' (Err known) → new ≡ append_known old (refusal_text known) → Wrote words old new known
 wrote_line words shelf shelf' old new (ReadFault x) can taken = taken
-wrote_line words shelf shelf' old new (Later x) can taken = taken
+wrote_line words shelf shelf' old new Later can taken = taken
+wrote_line words shelf shelf' old new (Mesh fault) can taken = taken
+wrote_line words shelf shelf' old new (Limit fault) can taken = taken
 wrote_line words shelf shelf' old new Usage can taken = taken
 wrote_line words shelf shelf' old new NoMemory can taken = taken
 wrote_line words shelf shelf' old new Done can taken = absurd can
@@ -228,7 +272,9 @@ wrote_refusal words shelf shelf' old new known (Err _) ended usage can front end
 
 written_cause : (shelf shelf' sink sink' : ℕ) (refusal : Ended) → HasStepCause {A = Job} shelf shelf' (Err refusal) → sink' ≡ sink → HasCauses shelf shelf' sink sink' refusal
 written_cause shelf shelf' sink sink' (ReadFault x) first second = (first, second)
-written_cause shelf shelf' sink sink' (Later x) first second = (first, second)
+written_cause shelf shelf' sink sink' Later first second = (first, second)
+written_cause shelf shelf' sink sink' (Mesh fault) first second = (first, second)
+written_cause shelf shelf' sink sink' (Limit fault) first second = (first, second)
 written_cause shelf shelf' sink sink' Usage first second = (first, second)
 written_cause shelf shelf' sink sink' NoMemory first second = (first, second)
 written_cause shelf shelf' sink sink' Done first second = absurd first
@@ -236,7 +282,9 @@ written_cause shelf shelf' sink sink' WriteFault first second = absurd first
 
 not_fallen : (shelf shelf' : ℕ) (refusal : Ended) → HasStepCause {A = Job} shelf shelf' (Err refusal) → shelf ≤ shelf'
 not_fallen shelf shelf' (ReadFault x) first = first.0
-not_fallen shelf shelf' (Later x) first = omega (arith, first)
+not_fallen shelf shelf' Later first = omega (arith, first)
+not_fallen shelf shelf' (Mesh fault) first = omega (arith, first)
+not_fallen shelf shelf' (Limit fault) first = omega (arith, first)
 not_fallen shelf shelf' Usage first = omega (arith, first)
 not_fallen shelf shelf' NoMemory first = omega (arith, first)
 not_fallen shelf shelf' Done first = absurd first

@@ -1,5 +1,12 @@
 -- Texts that are written line by line.
 use Rattle.std.proofs.Common.{◌≡◌, ℕ, ◌+◌, ◌-◌, ◌<◌, List, [], ◌++◌, ℤ, Option, Result, Ok, Err, refl, sym, ap, subst, ◌∙◌, arith, append_assoc, add-zero, zero-add, zero, suc}
+use Rattle.std.proofs.lemmas.Fmt.{length_signed_le, length-decimal-le}
+use Rattle.std.proofs.lemmas.Int.{ints, to_z-of_z}
+use Rattle.std.proofs.Math.Facts.{sfits_to_z}
+use Rattle.std.specs.Fmt.{decimal, signed_decimal}
+use mir.Syntax.{w64}
+use mir.Val.{SFits, to_z, of_z}
+use Rattle.std.proofs.Common.{◌≤◌, ◌^◌, length}
 use Rattle.std.specs.Io.KnownBytes.{append_known}
 use Rattle.std.specs.List.{flat_map, range_with_len}
 use Rattle.std.proofs.lemmas.List.{append-nil}
@@ -62,3 +69,17 @@ line_later name value id line old between now taken is more =
     let before = field_text name value id in
     more ∙ ap (λ (k : Option (List ℕ)). append_known k line) taken ∙ append_known-append old before line
     ∙ ap (append_known old) (ap (λ (l : List ℕ). before ++ l) is ∙ sym (text_more name value id))
+
+-- numbers of 64 bits are short
+pub signed_short : (z : ℤ) → SFits w64 z → length (signed_decimal z) ≤ 20
+signed_short z fits = length_signed_le 19 z (omega (arith, ints)) (omega (arith, ints))
+
+pub word_short : (n : ℕ) → n < 2 ^ 64 → length (signed_decimal (to_z w64 n)) ≤ 20
+word_short n fits = signed_short (to_z w64 n) (sfits_to_z (record { fits = fits }))
+
+pub count_short : (n : ℕ) → n < 2 ^ 64 → length (decimal n) ≤ 20
+count_short n fits = length-decimal-le 20 n (omega arith) (omega arith) fits
+
+-- a number of 64 bits in two's complement
+pub value_short : (z : ℤ) → SFits w64 z → length (signed_decimal (to_z w64 (of_z w64 z))) ≤ 20
+value_short z fits = let e : length (signed_decimal (to_z w64 (of_z w64 z))) ≡ length (signed_decimal z) = ap (λ n. length (signed_decimal n)) (to_z-of_z w64 z fits) in omega (arith, e, signed_short z fits)

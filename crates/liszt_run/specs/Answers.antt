@@ -11,6 +11,7 @@ use Rattle.liszt_run.specs.declared.ended.Ended.TheVariants.{Done, Usage, Later,
 use Rattle.liszt_run.specs.declared.top.Step.{Step}
 use Rattle.liszt_run.specs.declared.top.Step.TheVariants.{Ended as EndedNow}
 use Rattle.liszt_run.specs.declared.inputs.Job.{Job}
+use Rattle.text_scan.specs.Rows.{TextRows, text_rows}
 use Rattle.liszt_parser.specs.declared.plain.Plain.{Plain}
 use Rattle.liszt_run.specs.Commands.{command_of}
 use Rattle.liszt_run.specs.Endings.{refusal_text, field_text, done_text}
@@ -93,6 +94,11 @@ StepGives files input name Tells before now (Err ended) =
 abbrev pub TellsItself : List ℕ → Result (List ℕ) Ended → Type 0
 TellsItself bytes (Ok value) = value ≡ bytes
 TellsItself bytes (Err ended) = ⊥
+
+-- the bytes come to their rows
+abbrev pub TellsRows : List ℕ → Result TextRows Ended → Type 0
+TellsRows bytes (Ok rows) = rows ≡ text_rows bytes
+TellsRows bytes (Err ended) = ⊥
 
 -- the lines that a job writes
 abbrev pub job_text : Job → List ℕ

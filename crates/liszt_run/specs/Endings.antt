@@ -73,14 +73,17 @@ limit_word (File x) = codes "File " ++ input_word x
 limit_word Points = codes "Points"
 limit_word Cells = codes "Cells"
 
--- the line of a refusal
+-- the line of a limit, and that of a refusal
+abbrev pub limit_line : LimitWhat → ℕ → List ℕ
+limit_line what allowed = codes "limit " ++ (limit_word what ++ (codes " over " ++ (decimal allowed ++ codes "\n")))
+
 abbrev pub refusal_text : Ended → List ℕ
 refusal_text Usage =
     codes "usage: liszt_run MODE PROGRAM NODE ELE [--workers N] [--ranks N] [--parts NAME] [--turns L] or self N\n"
 refusal_text Later = codes "later program\n"
 refusal_text (Mesh fault) =
     codes "mesh " ++ (mesh_file_word fault.file ++ (codes " " ++ (mesh_word fault.what ++ (codes " line " ++ (decimal fault.line ++ codes "\n")))))
-refusal_text (Limit fault) = codes "limit " ++ (limit_word fault.what ++ (codes " over " ++ (decimal fault.allowed ++ codes "\n")))
+refusal_text (Limit fault) = limit_line fault.what fault.allowed
 refusal_text (ReadFault x) = codes "read fault " ++ (input_word x ++ codes "\n")
 refusal_text NoMemory = codes "no memory\n"
 refusal_text Done = []

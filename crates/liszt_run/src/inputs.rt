@@ -1,24 +1,21 @@
-ghost use Rattle.std.specs.Prelude.{◌≡◌, ℕ, ◌≤ℤ◌, ◌<ℤ◌, pos, Some, None, Ok, Err, IfOk};
+ghost use Rattle.std.specs.Prelude.{◌≡◌, ℕ, ◌≤◌, ◌<◌, ◌^◌, ◌≤ℤ◌, ◌<ℤ◌, pos, Some, None, Ok, Err, IfOk, length};
 ghost use Rattle.liszt_base.specs.declared.answers.Input.TheVariants.{Program, Node, Ele};
 ghost use Rattle.liszt_io.specs.Shelves.{Files};
-ghost use Rattle.liszt_parser.specs.PlainProgram.{IsPlainProgram};
-ghost use Rattle.tet_reader.specs.PlainMesh.{IsPlainNode, IsPlainMeshOver};
 ghost use Rattle.liszt_run.specs.declared.ended.Ended.TheVariants.{Usage};
 ghost use Rattle.liszt_run.specs.Commands.{command_of};
 ghost use Rattle.liszt_base.specs.MeshLists.{MeshLists};
 ghost use Rattle.liszt_run.specs.Endings.{done_text};
-ghost use Rattle.liszt_run.specs.Answers.{HasStepCause, StepGives, SpellsItself, Prepares, job_text};
+ghost use Rattle.liszt_run.specs.Expected.{ProgramTells, NodeTells, EleTells};
+ghost use Rattle.liszt_run.specs.Answers.{HasStepCause, StepGives, TellsItself, TellsRows, Prepares, job_text};
 
 use crate::command::command_of;
-use crate::ended::Ended;
+use crate::ended::{Ended, FILE_LIMIT, mesh_ended, too_long};
 use liszt_base::{ByteList, Input, PointTable, RawMesh, Refused, WordList};
 use liszt_io::{Shelf, WholeFault, read_whole};
 use liszt_parser::{Plain, read_plain};
 use std::alloc::Global;
-use tet_reader::{read_plain_cells, read_plain_points};
-
-/// No file may have more bytes.
-const FILE_LIMIT: usize = 67_108_864;
+use tet_reader::{read_cells, read_points};
+use text_scan::{Rows, rows_of};
 
 /// A run that is ready: the field's name, the number of each cell, and the mesh.
 #[derive(Drop)]
@@ -56,13 +53,13 @@ fn take_program<F: Shelf>(alloc: Global, shelf: &mut F, name: &str) -> Result<Pl
     ensures cause { HasStepCause (F.faults shelf.old) (F.faults shelf.new) result }
     ensures other { result ≡ Err Usage → ⊥ }
     ensures told { (files : Files) → F.held shelf.old ≡ Some files
-        → StepGives files Program name.now IsPlainProgram (F.tally shelf.old) (F.tally shelf.new) result }
+        → StepGives files Program name.now ProgramTells (F.tally shelf.old) (F.tally shelf.new) result }
     ensures bound { IfOk result (λ p. (pos 0 ≤ℤ p.first) × (p.first <ℤ pos 1000000000) × (pos 0 ≤ℤ p.add) × (p.add <ℤ pos 1000000000)) }
 {
     let bytes = take_bytes(alloc, shelf, name, Input::Program)?;
     match read_plain(bytes.as_slice()) {
         Some(program) => Ok(program),
-        None => Err(Ended::Later(Input::Program)),
+        None => Err(Ended::Later),
     }
 }
 
@@ -70,13 +67,14 @@ fn take_points<F: Shelf>(alloc: Global, shelf: &mut F, name: &str) -> Result<Poi
     ensures held { F.held shelf.new ≡ F.held shelf.old }
     ensures cause { HasStepCause (F.faults shelf.old) (F.faults shelf.new) result }
     ensures other { result ≡ Err Usage → ⊥ }
+    ensures few { IfOk result (λ points. length points.list < 2 ^ 32) }
     ensures told { (files : Files) → F.held shelf.old ≡ Some files
-        → StepGives files Node name.now IsPlainNode (F.tally shelf.old) (F.tally shelf.new) result }
+        → StepGives files Node name.now NodeTells (F.tally shelf.old) (F.tally shelf.new) result }
 {
-    let bytes = take_bytes(alloc, shelf, name, Input::Node)?;
-    match read_plain_points(alloc, bytes.as_slice()) {
+    let rows = take_rows(alloc, shelf, name, Input::Node)?;
+    match read_points(alloc, &rows) {
         Ok(points) => Ok(points),
-        Err(Refused::Fault(_)) => Err(Ended::Later(Input::Node)),
+        Err(Refused::Fault(fault)) => Err(mesh_ended(fault)),
         Err(Refused::NoMemory) => Err(Ended::NoMemory),
     }
 }
@@ -87,17 +85,38 @@ fn take_cells<F: Shelf>(
     name: &str,
     points: PointTable,
 ) -> Result<RawMesh, Ended>
+    requires { length points.list < 2 ^ 32 }
     ensures held { F.held shelf.new ≡ F.held shelf.old }
     ensures cause { HasStepCause (F.faults shelf.old) (F.faults shelf.new) result }
     ensures other { result ≡ Err Usage → ⊥ }
     ensures told { (files : Files) → F.held shelf.old ≡ Some files
-        → StepGives files Ele name.now (IsPlainMeshOver points) (F.tally shelf.old) (F.tally shelf.new) result }
+        → StepGives files Ele name.now (EleTells points) (F.tally shelf.old) (F.tally shelf.new) result }
 {
-    let bytes = take_bytes(alloc, shelf, name, Input::Ele)?;
-    match read_plain_cells(alloc, bytes.as_slice(), points) {
+    let rows = take_rows(alloc, shelf, name, Input::Ele)?;
+    match read_cells(alloc, &rows, points) {
         Ok(mesh) => Ok(mesh),
-        Err(Refused::Fault(_)) => Err(Ended::Later(Input::Ele)),
+        Err(Refused::Fault(fault)) => Err(mesh_ended(fault)),
         Err(Refused::NoMemory) => Err(Ended::NoMemory),
+    }
+}
+
+/// The rows of an input.
+fn take_rows<F: Shelf>(
+    alloc: Global,
+    shelf: &mut F,
+    name: &str,
+    input: Input,
+) -> Result<Rows, Ended>
+    ensures held { F.held shelf.new ≡ F.held shelf.old }
+    ensures cause { HasStepCause (F.faults shelf.old) (F.faults shelf.new) result }
+    ensures other { result ≡ Err Usage → ⊥ }
+    ensures told { (files : Files) → F.held shelf.old ≡ Some files
+        → StepGives files input name.now TellsRows (F.tally shelf.old) (F.tally shelf.new) result }
+{
+    let bytes = take_bytes(alloc, shelf, name, input)?;
+    match rows_of(alloc, bytes.as_slice()) {
+        Ok(rows) => Ok(rows),
+        Err(_) => Err(Ended::NoMemory),
     }
 }
 
@@ -111,13 +130,14 @@ fn take_bytes<F: Shelf>(
     ensures held { F.held shelf.new ≡ F.held shelf.old }
     ensures cause { HasStepCause (F.faults shelf.old) (F.faults shelf.new) result }
     ensures other { result ≡ Err Usage → ⊥ }
+    ensures short { IfOk result (λ bytes. length bytes ≤ 67108864) }
     ensures told { (files : Files) → F.held shelf.old ≡ Some files
-        → StepGives files input name.now SpellsItself (F.tally shelf.old) (F.tally shelf.new) result }
+        → StepGives files input name.now TellsItself (F.tally shelf.old) (F.tally shelf.new) result }
 {
     match read_whole(alloc, shelf, name, FILE_LIMIT) {
         Ok(bytes) => Ok(bytes),
         Err(WholeFault::ReadFault) => Err(Ended::ReadFault(input)),
-        Err(WholeFault::TooLong) => Err(Ended::Later(input)),
+        Err(WholeFault::TooLong) => Err(too_long(input)),
         Err(WholeFault::NoMemory) => Err(Ended::NoMemory),
     }
 }

@@ -5,8 +5,9 @@ mod command;
 mod ended;
 mod inputs;
 mod laws;
-mod line_buf;
 mod report;
+#[cfg(test)]
+mod mesh_faults;
 #[cfg(test)]
 mod tests;
 mod top;

@@ -1,21 +1,24 @@
-ghost use Rattle.std.specs.Prelude.{◌≡◌, ◌<◌, ◌^◌, [], ◌∷◌, length};
+ghost use Rattle.std.specs.Prelude.{◌≡◌, ◌+◌, ◌<◌, ◌≤◌, ◌^◌, [], ◌∷◌, ◌++◌, length};
 ghost use Rattle.liszt_io.specs.Causes.{HasCause};
 ghost use Rattle.liszt_io.specs.Sinks.{Writes};
 ghost use Rattle.liszt_run.specs.Answers.{job_text};
-ghost use Rattle.liszt_run.specs.Endings.{refusal_text, value_line, field_text};
+ghost use Rattle.liszt_run.specs.declared.ended.Ended.TheVariants.{Mesh as OfMesh};
+ghost use Rattle.liszt_run.specs.Endings.{refusal_text, value_line, field_text, limit_line, limit_word, mesh_file_word, input_word as InputWord, mesh_word as MeshWord};
 
 use crate::ended::Ended;
 use crate::inputs::Job;
-use crate::line_buf::LineBuf;
-use liszt_base::{Input, RawCell};
+use liszt_base::{Input, LimitWhat, MeshFault, MeshFile, MeshWhat, RawCell};
 use liszt_io::{Sink, WriteFault, write_whole};
+use text_scan::LineBuf;
 
 /// Writes the line of a refusal and flushes.
 pub fn write_refusal<S: Sink>(out: &mut S, ended: Ended) -> Result<(), WriteFault>
     ensures cause { HasCause (S.faults out.old) (S.faults out.new) result }
     ensures writes { Writes (refusal_text ended) (S.taken out.old) (S.taken out.new) result }
 {
-    match write_whole(out, refusal_line(ended)) {
+    let mut line = LineBuf::new();
+    set_refusal(&mut line, ended);
+    match write_whole(out, line.bytes()) {
         Ok(()) => flush(out),
         Err(fault) => Err(fault),
     }
@@ -76,21 +79,108 @@ fn flush<S: Sink>(out: &mut S) -> Result<(), WriteFault>
     }
 }
 
-/// The line of a refusal.
-fn refusal_line(ended: Ended) -> &'static [u8]
-    ensures { result.now ≡ refusal_text ended }
+/// Makes the line that of a refusal.
+fn set_refusal(line: &mut LineBuf, ended: Ended)
+    ensures { line.new ≡ refusal_text ended }
 {
+    line.clear();
     match ended {
-        Ended::Usage => {
-            b"usage: liszt_run MODE PROGRAM NODE ELE [--workers N] [--ranks N] [--parts NAME] [--turns L] or self N\n"
+        Ended::Usage => line.text(
+            b"usage: liszt_run MODE PROGRAM NODE ELE [--workers N] [--ranks N] [--parts NAME] [--turns L] or self N\n",
+        ),
+        Ended::Later => line.text(b"later program\n"),
+        Ended::Mesh(fault) => set_mesh(line, fault),
+        Ended::Limit(fault) => set_limit(line, fault.what, fault.allowed),
+        Ended::ReadFault(input) => {
+            line.text(b"read fault ");
+            line.text(input_word(input));
+            line.text(b"\n");
         }
-        Ended::Later(Input::Program) => b"later program\n",
-        Ended::Later(Input::Node) => b"later node\n",
-        Ended::Later(Input::Ele) => b"later ele\n",
-        Ended::ReadFault(Input::Program) => b"read fault program\n",
-        Ended::ReadFault(Input::Node) => b"read fault node\n",
-        Ended::ReadFault(Input::Ele) => b"read fault ele\n",
-        Ended::NoMemory => b"no memory\n",
-        Ended::Done | Ended::WriteFault => b"",
+        Ended::NoMemory => line.text(b"no memory\n"),
+        Ended::Done | Ended::WriteFault => {}
+    }
+}
+
+/// Makes the empty line that of a mesh's fault.
+fn set_mesh(line: &mut LineBuf, fault: MeshFault)
+    requires { line.old ≡ [] }
+    ensures { line.new ≡ refusal_text (OfMesh fault) }
+{
+    line.text(b"mesh ");
+    line.text(file_word(fault.file));
+    line.text(b" ");
+    line.text(mesh_word(fault.what));
+    line.text(b" line ");
+    line.count(u64::from(fault.line));
+    line.text(b"\n");
+}
+
+/// Makes the empty line that of a limit.
+fn set_limit(line: &mut LineBuf, what: LimitWhat, allowed: u64)
+    requires { line.old ≡ [] }
+    ensures { line.new ≡ limit_line what allowed }
+{
+    line.text(b"limit ");
+    add_limit(line, what);
+    line.text(b" over ");
+    line.count(allowed);
+    line.text(b"\n");
+}
+
+/// Adds the name of what has a limit.
+fn add_limit(line: &mut LineBuf, what: LimitWhat)
+    requires { length line.old ≤ 200 }
+    ensures is { line.new ≡ line.old ++ limit_word what }
+    ensures short { length line.new ≤ length line.old + 12 }
+{
+    match what {
+        LimitWhat::File(input) => {
+            line.text(b"File ");
+            line.text(input_word(input));
+        }
+        LimitWhat::Points => line.text(b"Points"),
+        LimitWhat::Cells => line.text(b"Cells"),
+    }
+}
+
+fn file_word(file: MeshFile) -> &'static [u8]
+    ensures is { result.now ≡ mesh_file_word file }
+    ensures short { length result.now ≤ 4 }
+{
+    match file {
+        MeshFile::Node => b"node",
+        MeshFile::Ele => b"ele",
+    }
+}
+
+fn input_word(input: Input) -> &'static [u8]
+    ensures is { result.now ≡ InputWord input }
+    ensures short { length result.now ≤ 7 }
+{
+    match input {
+        Input::Program => b"program",
+        Input::Node => b"node",
+        Input::Ele => b"ele",
+    }
+}
+
+fn mesh_word(what: MeshWhat) -> &'static [u8]
+    ensures is { result.now ≡ MeshWord what }
+    ensures short { length result.now ≤ 11 }
+{
+    match what {
+        MeshWhat::Header => b"Header",
+        MeshWhat::BadNumber => b"BadNumber",
+        MeshWhat::CoordRange => b"CoordRange",
+        MeshWhat::Dimension => b"Dimension",
+        MeshWhat::SecondOrder => b"SecondOrder",
+        MeshWhat::NumberOrder => b"NumberOrder",
+        MeshWhat::Missing => b"Missing",
+        MeshWhat::Extra => b"Extra",
+        MeshWhat::CornerRange => b"CornerRange",
+        MeshWhat::CornerTwice => b"CornerTwice",
+        MeshWhat::CellTwice => b"CellTwice",
+        MeshWhat::FaceShared => b"FaceShared",
+        MeshWhat::TooMany => b"TooMany",
     }
 }

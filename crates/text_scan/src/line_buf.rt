@@ -1,5 +1,5 @@
 ghost use Rattle.std.specs.Prelude.{◌≡◌, ◌+◌, ◌≤◌, [], ◌++◌, length};
-ghost use Rattle.std.specs.Fmt.{signed_decimal};
+ghost use Rattle.std.specs.Fmt.{decimal, signed_decimal};
 
 use itoa::Buffer;
 use std::marker::Model;
@@ -50,6 +50,16 @@ impl LineBuf {
     {
         let mut buffer = Buffer::new();
         self.text(buffer.format(number).as_bytes());
+    }
+
+    /// Adds a count, in decimal digits: at most 20 bytes.
+    pub fn count(&mut self, count: u64)
+        requires { length self.old + length (decimal count) ≤ 256 }
+        ensures bytes { self.new ≡ self.old ++ decimal count }
+        ensures short { length self.new ≤ length self.old + 20 }
+    {
+        let mut buffer = Buffer::new();
+        self.text(buffer.format(count).as_bytes());
     }
 
     /// The bytes.

@@ -1,16 +1,16 @@
-use Rattle.std.proofs.Common.{refl, inl}
+use Rattle.std.proofs.Common.{refl, inl, inr, ap, Err}
 use Rattle.liszt_run.proofs.Steps.{lost_at}
 use Rattle.liszt_run.proofs.inputs.take_bytes.Goals as goal
 
 pub returns-in-Ok-clause-told : goal.returns-in-Ok-clause-told
-returns-in-Ok-clause-told g c files h = let w = c.in-Ok.ensures.whole files h in (c.in-Ok.bytes, w.0, (w.1, refl), w.2)
+returns-in-Ok-clause-told g c files h = let w = c.in-Ok.ensures.whole files h in (w.0, w.1, w.2, w.3)
 
 pub returns-in-Err-ReadFault-clause-told : goal.returns-in-Err-ReadFault-clause-told
 returns-in-Err-ReadFault-clause-told g c files h =
     let w = rw c.in-Err-ReadFault.field-0-is at (c.in-Err-ReadFault.ensures.whole files h) in
-    (refl, lost_at files c.args.name.now _ _ w)
+    inr (inl (refl, lost_at files c.args.name.now _ _ w))
 
 pub returns-in-Err-TooLong-clause-told : goal.returns-in-Err-TooLong-clause-told
 returns-in-Err-TooLong-clause-told g c files h =
     let w = rw c.in-Err-TooLong.field-0-is at (c.in-Err-TooLong.ensures.whole files h) in
-    (refl, w.0, w.1, inl w.2)
+    inr (inr (w.0, w.1, inl (w.2, ap Err c.too_long.ensures)))

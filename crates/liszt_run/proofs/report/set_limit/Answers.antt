@@ -1,0 +1,8 @@
+use Rattle.std.proofs.Common.{arith, ap, length, length-append}
+use Rattle.liszt_run.proofs.Texts.{count_short}
+use Rattle.liszt_run.proofs.report.set_limit.Goals as goal
+
+pub count-requires : goal.count-requires
+count-requires c =
+    omega (arith, count_short c.args.allowed c.ranges.allowed.fits, c.add_limit.ensures.short, simp length-append at (ap length c.text.ensures),
+      simp length-append at (ap length c.text-2.ensures), ap length c.requires)

@@ -1,0 +1,12 @@
+use Rattle.std.proofs.Common.{arith, ap, length, length-append}
+use Rattle.liszt_run.proofs.Texts.{word_short, value_short}
+use Rattle.liszt_run.proofs.report.set_line.Goals as goal
+
+pub number-requires : goal.number-requires
+number-requires c =
+    omega (arith, word_short c.args.id c.ranges.id.fits, simp length-append at (ap length c.text.ensures), ap length c.clear.ensures)
+
+pub number-requires-2 : goal.number-requires-2
+number-requires-2 c =
+    omega (arith, value_short c.args.value c.ranges.value, simp length-append at (ap length c.text-2.ensures), c.number.ensures.short,
+      simp length-append at (ap length c.text.ensures), ap length c.clear.ensures)
