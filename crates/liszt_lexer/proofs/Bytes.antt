@@ -33,8 +33,10 @@ all_fail test xs (w ∷ words) fails all =
 pub nowhere : (test : List ℕ → Bool) (xs : List ℕ) (words : List (List ℕ)) → test xs ≡ false → list_all test words ≡ true
     → position (bytes_eq xs) words ≡ None
 nowhere test xs words fails all =
-    let none : nat_lt (position_or_len (bytes_eq xs) words) (length words) ≡ false =
-    refuted (nat_lt (position_or_len (bytes_eq xs) words) (length words)) (λ e. absurd (omega (arith, all_fail test xs words fails all, ltb-true (position_or_len (bytes_eq xs) words) (length words) e))) in
+    let place = position_or_len (bytes_eq xs) words in
+    let none : nat_lt place (length words) ≡ false =
+    refuted (nat_lt place (length words))
+    (λ e. absurd (omega (arith, all_fail test xs words fails all, ltb-true place (length words) e))) in
     rw none refl
 
 -- the first byte passes a test
@@ -60,7 +62,8 @@ letter_is b e = (grind (arith, nat_tests), grind (arith, nat_tests), grind (arit
 pub prefix_passes : (p : ℕ → Bool) (xs : List ℕ) → list_all p (take (prefix_len p xs) xs) ≡ true
 prefix_passes p [] = refl
 prefix_passes p (x ∷ xs) = go (p x) refl (prefix_passes p xs) where
-  go : (b : Bool) → p x ≡ b → list_all p (take (prefix_len p xs) xs) ≡ true → list_all p (take (cond b (1 + prefix_len p xs) 0) (x ∷ xs)) ≡ true
+  go : (b : Bool) → p x ≡ b → list_all p (take (prefix_len p xs) xs) ≡ true
+      → list_all p (take (cond b (1 + prefix_len p xs) 0) (x ∷ xs)) ≡ true
   go true e h =
       let one : 1 + prefix_len p xs ≡ suc (prefix_len p xs) = omega arith in
       rw (one, e) h

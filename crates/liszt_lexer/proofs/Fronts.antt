@@ -1,6 +1,7 @@
 -- The longest piece at the front of a text, by its first byte.
 use Rattle.std.proofs.Common.{◌≡◌, ℕ, zero, suc, ◌+◌, ◌-◌, ◌<◌, ◌≤◌, ◌^◌, ◌==◌, ◌&&◌, ◌⊎◌, inl, inr, not, cond, nat_lt, Bool}
-use Rattle.std.proofs.Common.{true, false, Option, None, Some, is_some, unwrap_or, List, [], ◌∷◌, ◌++◌, length, take, drop, get_or, codes, pos}
+use Rattle.std.proofs.Common.{true, false, Option, None, Some, is_some, unwrap_or, List, [], ◌∷◌, ◌++◌, length, take, drop, get_or}
+use Rattle.std.proofs.Common.{codes, pos}
 use Rattle.std.proofs.Common.{refl, sym, ap, subst, ◌∙◌, length-append, arith}
 use Rattle.std.specs.Char.{is_ascii_digit}
 use Rattle.std.specs.List.{list_all, prefix_len, position, find}
@@ -18,11 +19,13 @@ use Rattle.liszt_lexer.specs.declared.front.Found.{Found}
 use Rattle.liszt_lexer.specs.declared.front.Found.TheVariants.{Token as FoundToken, Fault as FoundFault}
 use Rattle.liszt_lexer.specs.declared.token.TokenKind.{TokenKind}
 use Rattle.liszt_lexer.specs.declared.token.TokenKind.TheVariants.{Name, Number, Word, Symbol, MinSet, MaxSet}
-use Rattle.liszt_lexer.specs.Fronts.{IsFront, is_in_name, is_in_comment, found_in, number_found, name_found, named, symbol_found, symbol_size, mark_found, set_kind}
+use Rattle.liszt_lexer.specs.Fronts.{IsFront, is_in_name, is_in_comment, found_in, number_found, name_found, named, symbol_found}
+use Rattle.liszt_lexer.specs.Fronts.{symbol_size, mark_found, set_kind}
 use Rattle.liszt_lexer.specs.Lexer.{Piece, Gap, Token, Fault, down_from, piece, gap, set_token, word_token, symbol_token, number_token}
 use Rattle.liszt_lexer.specs.Lexer.{name_token, is_blank, is_letter, is_line_feed}
 use Rattle.liszt_lexer.specs.Words.{reserved_words, symbols}
-use Rattle.liszt_lexer.proofs.Bytes.{refuted, other, nowhere, begins, is_mark, blank_is, digit_is, letter_is, prefix_passes, past_prefix, some_pass, is_short}
+use Rattle.liszt_lexer.proofs.Bytes.{refuted, other, nowhere, begins, is_mark, blank_is, digit_is, letter_is}
+use Rattle.liszt_lexer.proofs.Bytes.{prefix_passes, past_prefix, some_pass, is_short}
 use Rattle.liszt_lexer.proofs.Longest.{at_or_below}
 
 -- A NUMBER THAT PASSES, with none above it, is found in the list that goes down to 1, and nothing is found where none passes.
@@ -180,7 +183,8 @@ only_number b bytes digit =
     (no_name b bytes is.1)
 
 digits_are : (b : ℕ) (bytes : List ℕ) → is_ascii_digit b ≡ true
-    → IsFront (b ∷ bytes) (suc (prefix_len is_ascii_digit bytes)) (found_in (number_found (b ∷ take (prefix_len is_ascii_digit bytes) bytes)))
+    → IsFront (b ∷ bytes) (suc (prefix_len is_ascii_digit bytes))
+    (found_in (number_found (b ∷ take (prefix_len is_ascii_digit bytes) bytes)))
 digits_are b bytes digit =
     let size = prefix_len is_ascii_digit bytes in
     let all : list_all is_ascii_digit (b ∷ take size bytes) ≡ true = rw (digit, prefix_passes is_ascii_digit bytes) refl in
@@ -214,7 +218,8 @@ at_most_64 : (n : ℕ) → nat_lt 64 (suc n) ≡ not (nat_lt n 64)
 at_most_64 n = grind (arith, nat_tests)
 
 -- by the place among the reserved words, and whether the name is short
-named_so : (o : Option ℕ) (n : ℕ) → option_or (option_map (λ place. Token (Word place)) o) (Some (cond (nat_lt n 64) (Token Name) (Fault LongName)))
+named_so : (o : Option ℕ) (n : ℕ)
+    → option_or (option_map (λ place. Token (Word place)) o) (Some (cond (nat_lt n 64) (Token Name) (Fault LongName)))
     ≡ Some (found_in (named o (suc n)))
 named_so (Some place) n = refl
 named_so None n = rw at_most_64 (go (nat_lt n 64)) where
@@ -314,11 +319,13 @@ set_front text kind is = go (bytes_eq (take 4 text) (codes "min=")) refl (bytes_
       → cond a (Some MinSet) (cond b (Some MaxSet) None) ≡ Some kind → IsFront text 4 (Token kind)
   go true min b max is =
       let same : MinSet ≡ kind = cc in
-      subst (λ (k : TokenKind). IsFront text 4 (Token k)) same (subst (λ (l : List ℕ). IsFront l 4 (Token MinSet)) (whole (codes "min=") min)
+      subst (λ (k : TokenKind). IsFront text 4 (Token k)) same
+      (subst (λ (l : List ℕ). IsFront l 4 (Token MinSet)) (whole (codes "min=") min)
       (set_is MinSet 109 (105 ∷ 110 ∷ 61 ∷ []) (drop 4 text) refl refl refl (λ more. refl)))
   go false min true max is =
       let same : MaxSet ≡ kind = cc in
-      subst (λ (k : TokenKind). IsFront text 4 (Token k)) same (subst (λ (l : List ℕ). IsFront l 4 (Token MaxSet)) (whole (codes "max=") max)
+      subst (λ (k : TokenKind). IsFront text 4 (Token k)) same
+      (subst (λ (l : List ℕ). IsFront l 4 (Token MaxSet)) (whole (codes "max=") max)
       (set_is MaxSet 109 (97 ∷ 120 ∷ 61 ∷ []) (drop 4 text) refl refl refl (λ more. refl)))
   go false min false max is = cc
 

@@ -8,19 +8,12 @@ use Rattle.liszt_base.specs.declared.answers.Place.{Place}
 use Rattle.liszt_lexer.specs.Lexer.{is_line_feed, place_behind, IsBefore}
 use Rattle.liszt_lexer.specs.Rest.{place_past}
 
--- the front that passes a test is no longer than the list
-prefix_len_within : (p : ℕ → Bool) (xs : List ℕ) → prefix_len p xs ≤ length xs
-prefix_len_within p [] = omega arith
-prefix_len_within p (x ∷ xs) = go (p x) (prefix_len_within p xs) where
-  go : (b : Bool) → prefix_len p xs ≤ length xs → cond b (1 + prefix_len p xs) 0 ≤ suc (length xs)
-  go true h = omega arith
-  go false h = omega arith
-
 -- how many bytes stand behind the last LF
 length_after : (front : List ℕ) → length (after_last is_line_feed front) ≡ prefix_len (λ b. not (is_line_feed b)) (reverse front)
 length_after front =
     let n = prefix_len (λ b. not (is_line_feed b)) (reverse front) in
-    omega (arith, length-drop (length front - n) front, prefix_len_within (λ b. not (is_line_feed b)) (reverse front), length-reverse front)
+    let few = prefix_len-le-length (λ b. not (is_line_feed b)) (reverse front) in
+    omega (arith, length-drop (length front - n) front, few, length-reverse front)
 
 -- with one byte more that is no LF it is one more
 one_more : (front : List ℕ) (b : ℕ) → is_line_feed b ≡ false
@@ -90,7 +83,8 @@ ascends text i (suc j) lt within =
     go (inr less) more = inr (more less)
 
 -- a place that is the same in both parts
-same_place : (line line' col col' : ℕ) → line ≡ line' → col ≡ col' → ◌≡◌ {A = Place} (record { line = line; col = col }) (record { line = line'; col = col' })
+same_place : (line line' col col' : ℕ) → line ≡ line' → col ≡ col'
+    → ◌≡◌ {A = Place} (record { line = line; col = col }) (record { line = line'; col = col' })
 same_place line line' col col' p q = λ i. record { line = p i; col = q i }
 
 -- the place past the next byte is the one behind the bytes up to there
@@ -101,7 +95,11 @@ past_next text i within = go (is_line_feed (get_or text i 0)) refl where
       → place_past (place_behind (take i text)) (get_or text i 0) ≡ place_behind (take (i + 1) text)
   go true e = rw e (same_place (count_by is_line_feed (take i text) + 1 + 1) (count_by is_line_feed (take (i + 1) text) + 1) 1
       (length (after_last is_line_feed (take (i + 1) text)) + 1) (omega (arith, count_by_more_yes is_line_feed text i 0 within e))
-      (omega (arith, ap (λ l. length (after_last is_line_feed l)) (take_more text i 0 within), none_more (take i text) (get_or text i 0) e)))
+      (omega (
+        arith,
+        ap (λ l. length (after_last is_line_feed l)) (take_more text i 0 within),
+        none_more (take i text) (get_or text i 0) e,
+      )))
   go false e = rw e (same_place (count_by is_line_feed (take i text) + 1) (count_by is_line_feed (take (i + 1) text) + 1)
       (length (after_last is_line_feed (take i text)) + 1 + 1) (length (after_last is_line_feed (take (i + 1) text)) + 1)
       (omega (arith, count_by_more_no is_line_feed text i 0 within e))
@@ -113,7 +111,12 @@ pub place_is_small : (text : List ℕ) (n : ℕ) → n ≤ length text
 place_is_small text n le =
     let size = length-take-le n text le in (
       omega (arith, count_by-le-length is_line_feed (take n text)),
-      omega (arith, length_after (take n text), prefix_len-le-length (λ b. not (is_line_feed b)) (reverse (take n text)), length-reverse (take n text)),
+      omega (
+        arith,
+        length_after (take n text),
+        prefix_len-le-length (λ b. not (is_line_feed b)) (reverse (take n text)),
+        length-reverse (take n text),
+      ),
     )
 
 -- so it is where the bytes are a part of the text

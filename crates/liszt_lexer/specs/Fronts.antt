@@ -1,6 +1,7 @@
 -- The longest piece at the front of a text, as the code finds it. Private functions' contracts and proofs cite it: what is
 -- promised is said by `tokens_of`.
-use Rattle.std.specs.Prelude.{◌≡◌, ℕ, ◌≤◌, ◌^◌, ◌||◌, not, nat_lt, if◌then◌else◌, Bool, Option, Some, None, is_some, unwrap_or, List, [], ◌∷◌, length, take, codes, pos}
+use Rattle.std.specs.Prelude.{◌≡◌, ℕ, ◌≤◌, ◌^◌, ◌||◌, not, nat_lt, if◌then◌else◌, Bool, Option, Some, None, is_some, unwrap_or, List}
+use Rattle.std.specs.Prelude.{[], ◌∷◌, length, take, codes, pos}
 use Rattle.std.specs.Char.{is_ascii_digit}
 use Rattle.std.specs.List.{position}
 use Rattle.std.specs.Str.{bytes_eq}

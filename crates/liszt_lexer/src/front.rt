@@ -1,11 +1,13 @@
 //! The longest piece at the front of a text.
-ghost use Rattle.std.specs.Prelude.{◌≡◌, ◌+◌, ◌-◌, ◌^◌, ◌<◌, ◌≤◌, true, false, None, Some, if◌then◌else◌, nat_lt, length, take, slice_index, codes, pos};
+ghost use Rattle.std.specs.Prelude.{◌≡◌, ◌+◌, ◌-◌, ◌^◌, ◌<◌, ◌≤◌, true, false, None, Some, if◌then◌else◌, nat_lt};
+ghost use Rattle.std.specs.Prelude.{length, take, slice_index, codes, pos};
 ghost use Rattle.std.specs.Char.{is_ascii_digit};
 ghost use Rattle.std.specs.List.{position, prefix_len, list_all};
 ghost use Rattle.std.specs.Option.{option_map};
 ghost use Rattle.std.specs.Str.{bytes_eq};
 ghost use Rattle.std.specs.Str.Parse.{digits_value};
-ghost use Rattle.liszt_lexer.specs.Fronts.{IsFront, found_in, is_in_name, is_in_comment, number_found, name_found, symbol_found, symbol_size, set_kind};
+ghost use Rattle.liszt_lexer.specs.Fronts.{IsFront, found_in, is_in_name, is_in_comment, number_found, name_found, symbol_found};
+ghost use Rattle.liszt_lexer.specs.Fronts.{symbol_size, set_kind};
 ghost use Rattle.liszt_lexer.specs.Lexer.{is_blank, is_letter};
 ghost use Rattle.liszt_lexer.specs.Words.{reserved_words, symbols};
 
@@ -90,37 +92,42 @@ pub fn longest_front(text: &[u8]) -> Front
     }
 }
 
+/// A blank or the end of a line.
 fn is_blank(byte: u8) -> bool
     ensures { result ≡ is_blank byte }
 {
     matches!(byte, b' ' | b'\t' | b'\r' | b'\n')
 }
 
+/// A letter or `_`.
 fn is_letter(byte: u8) -> bool
     ensures { result ≡ is_letter byte }
 {
     byte.is_ascii_alphabetic() || byte == b'_'
 }
 
+/// What a name goes on with.
 fn is_in_name(byte: u8) -> bool
     ensures { result ≡ is_in_name byte }
 {
     is_letter(byte) || byte.is_ascii_digit()
 }
 
-/// A comment goes on up to the end of its line.
+/// How many bytes there are up to the end of the line.
 fn comment_size(text: &[u8]) -> usize
     ensures { result ≡ prefix_len is_in_comment text.now }
 {
     text.iter().take_while(|b| **b != b'\n').count()
 }
 
+/// How many digits a text begins with.
 fn digits_size(text: &[u8]) -> usize
     ensures { result ≡ prefix_len is_ascii_digit text.now }
 {
     text.iter().take_while(|b| b.is_ascii_digit()).count()
 }
 
+/// How many bytes of a name a text begins with.
 fn name_size(text: &[u8]) -> usize
     ensures { result ≡ prefix_len is_in_name text.now }
 {
@@ -168,6 +175,7 @@ fn number_found(digits: &[u8]) -> Found
     }
 }
 
+/// Of a text that begins with a digit.
 fn number_front(text: &[u8]) -> Front
     requires some { 0 < length text.now }
     requires digit { is_ascii_digit (slice_index text.now 0) ≡ true }
@@ -204,6 +212,7 @@ fn name_found(name: &[u8]) -> Found
     }
 }
 
+/// Of a text that begins with a letter or `_`.
 fn word_front(text: &[u8]) -> Front
     requires some { 0 < length text.now }
     requires letter { is_letter (slice_index text.now 0) ≡ true }
@@ -224,6 +233,7 @@ fn word_front(text: &[u8]) -> Front
     }
 }
 
+/// Of a text that begins with `//`.
 fn comment_front(text: &[u8]) -> Front
     requires { bytes_eq (codes "//") (take 2 text.now) ≡ true }
     ensures { IsFront text.now result.size (found_in result.found) }
@@ -254,6 +264,7 @@ fn symbol_found(bytes: &[u8]) -> Found
     }
 }
 
+/// Of a text that begins with nothing of these.
 fn symbol_front(text: &[u8]) -> Front
     requires some { 0 < length text.now }
     requires blank { is_blank (slice_index text.now 0) ≡ false }

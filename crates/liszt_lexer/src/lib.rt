@@ -8,6 +8,8 @@ mod front;
 pub mod laws;
 mod lexer;
 mod shared;
+#[cfg(test)]
+mod tests;
 mod token;
 
 pub use lexer::{TokenList, tokens};

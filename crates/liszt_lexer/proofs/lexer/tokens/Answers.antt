@@ -32,8 +32,8 @@ returns-in_err-take_in c =
     let here = left text c.loop-cursor.cursor.passed front.result.size (found_in front.result.found) front.ensures in
     let p = err_from_is_err_and c.from_residual.result c.from_residual.ensures.1 in
     let e = c.in_err-take_in.field-0.0 in
-    let h = refused (Unit {0}) text c.loop-cursor.cursor front.result.size (found_in front.result.found) c.loop-cursor.tokens c.take_in.new.tokens
-    e c.loop-cursor.invariant.so_far c.loop-cursor.invariant.at here c.in_err-take_in.ensures in
+    let h = refused (Unit {0}) text c.loop-cursor.cursor front.result.size (found_in front.result.found) c.loop-cursor.tokens
+    c.take_in.new.tokens e c.loop-cursor.invariant.so_far c.loop-cursor.invariant.at here c.in_err-take_in.ensures in
     subst (λ (r : Result LexedText (Refused ProgramFault)). LexesTo text r) (sym (p.1 ∙ ap Err p.2)) h
 
 pub returns : goal.returns
