@@ -1,15 +1,16 @@
 -- The tables of a mesh are those of the definitions, as they are built.
-use Rattle.std.proofs.Common.{◌≡◌, ℕ, List, length, flat_map, sym, subst}
+use Rattle.std.proofs.Common.{◌≡◌, ℕ, ◌+◌, ◌<◌, arith, List, length, flat_map, refl, sym, subst}
 use Rattle.std.specs.List.{AllZip}
 use Rattle.liszt_base.specs.Corners.{IsMesh}
 use Rattle.liszt_base.specs.MeshLists.{MeshLists}
 use Rattle.liszt_base.specs.declared.elements.Kind.{Kind}
 use Rattle.liszt_base.specs.declared.mesh.RawCell.{RawCell}
-use Rattle.mesh_topology.specs.Choices.{choices, IsAscending, IsSmallTable, IsTableOf}
-use Rattle.mesh_topology.specs.Elements.{corner_lists, elements, HasCorners}
+use Rattle.mesh_topology.specs.Choices.{choices, first_of, AreStarts, IsAscending, IsIndexed, IsSmallTable, IsTableOf}
+use Rattle.mesh_topology.specs.Elements.{corner_lists, elements, count, corners, HasCorners}
 use Rattle.mesh_topology.specs.Tables.{IsSmallMesh}
 use Rattle.mesh_topology.proofs.Ranked.{ordered}
-use Rattle.mesh_topology.proofs.Near.{AreRows, are_rows, table_is}
+use Rattle.mesh_topology.proofs.Sets.{member_at}
+use Rattle.mesh_topology.proofs.Near.{AreRows, are_rows, rising_is, table_is}
 
 -- the table of the choices from the rows of all cells
 pub elements_are : (mesh : MeshLists) → IsSmallMesh mesh → (kind : Kind) (size : ℕ) → HasCorners kind size → (cells : List RawCell) (rows read table : List (List ℕ))
@@ -27,3 +28,23 @@ small_table mesh small kind size h table e =
 -- the rows of all cells
 pub table_rows : (mesh : MeshLists) → IsMesh (length mesh.points) (corner_lists mesh) → (rows read : List (List ℕ)) → read ≡ rows → AllZip IsAscending mesh.cells rows → AreRows mesh read
 table_rows mesh is rows read e all = subst (λ r. AreRows mesh r) (sym e) (are_rows mesh is rows all)
+
+-- it can be searched by where its sets start
+pub indexed : (mesh : MeshLists) → IsSmallMesh mesh → (kind : Kind) (size : ℕ) → HasCorners kind size → 0 < size → (made used : List (List ℕ)) (starts read : List ℕ) (n : ℕ)
+    → made ≡ elements mesh kind → used ≡ elements mesh kind → AreStarts made (n + 1) starts → read ≡ starts → n ≡ length mesh.points → IsIndexed used read
+indexed mesh small kind size h some made used starts read n e f are g m = subst (λ t. IsIndexed t read) (sym f) (subst (λ s. IsIndexed (elements mesh kind) s) (sym g) all) where
+  so : AreStarts (elements mesh kind) (n + 1) starts
+  so = subst (λ t. AreStarts t (n + 1) starts) e are
+
+  firsts : (id : ℕ) → id < count mesh kind → first_of (corners mesh kind id) + 1 < length starts
+  firsts id l =
+      let r = rising_is mesh kind size h id l in
+      let b = r.below (first_of (corners mesh kind id)) (member_at (corners mesh kind id) 0 0 (omega (arith, r.size_is))) in
+      omega (arith, so.long)
+
+  all : IsIndexed (elements mesh kind) starts
+  all = record {
+    small = small_table mesh small kind size h (elements mesh kind) refl;
+    starts_are = subst (λ k. AreStarts (elements mesh kind) k starts) (sym so.long) so;
+    firsts = firsts;
+  }

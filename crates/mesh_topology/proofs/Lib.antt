@@ -4,6 +4,7 @@ pub mod Cycles
 pub mod FaceEdges
 pub mod Few
 pub mod Found
+pub mod Indexed
 pub mod Kept
 pub mod Listed
 pub mod Looked

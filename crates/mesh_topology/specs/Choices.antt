@@ -1,5 +1,5 @@
 -- Choices of members of a list, and tables of them. Contracts of private functions cite these. This project's own.
-use Rattle.std.specs.Prelude.{◌≡◌, ◌↔◌, ℕ, zero, suc, List, [], ◌∷◌, ◌++◌, ◌<◌, ◌^◌, map, length, slice_index, slice_index_or}
+use Rattle.std.specs.Prelude.{◌≡◌, ◌↔◌, ℕ, ◌+◌, ◌≤◌, zero, suc, List, [], ◌∷◌, ◌++◌, ◌<◌, ◌^◌, map, length, slice_index, slice_index_or}
 use Rattle.std.specs.Cmp.Lexicographic.{slice_cmp}
 use Rattle.std.specs.List.{AllPairs, Contains}
 use Rattle.std.specs.List.Sorted.{IsNonDecreasing, IsPermutation}
@@ -41,3 +41,20 @@ HasChoices size table corners = (set : List ℕ) → Contains (choices size corn
 pub record AreRanksSoFar (table sets : List (List ℕ)) (done : ℕ) (ids : List ℕ) : Type 0 where
   pub long : length ids ≡ length sets
   pub at : (k : ℕ) → k < done → (slice_index ids k < length table) × (slice_index_or table (slice_index ids k) [] ≡ slice_index_or sets k [])
+
+-- the first of the corners of a set
+abbrev pub first_of : List ℕ → ℕ
+first_of set = slice_index set 0
+
+-- where the sets that begin with each of the first numbers start in a table
+pub record AreStarts (table : List (List ℕ)) (done : ℕ) (starts : List ℕ) : Type 0 where
+  pub long : length starts ≡ done
+  pub inside : (v : ℕ) → v < done → slice_index starts v ≤ length table
+  pub below : (v id : ℕ) → v < done → id < slice_index starts v → first_of (slice_index_or table id []) < v
+  pub above : (v id : ℕ) → v < done → slice_index starts v ≤ id → id < length table → v ≤ first_of (slice_index_or table id [])
+
+-- a table that can be searched by where its sets start
+pub record IsIndexed (table : List (List ℕ)) (starts : List ℕ) : Type 0 where
+  pub small : IsSmallTable table
+  pub starts_are : AreStarts table (length starts) starts
+  pub firsts : (id : ℕ) → id < length table → first_of (slice_index_or table id []) + 1 < length starts

@@ -8,6 +8,7 @@ mod incidence;
 pub mod laws;
 mod lower;
 mod mesh;
+mod shared;
 mod tables;
 #[cfg(test)]
 mod tests;

@@ -3,6 +3,7 @@
 ghost use Rattle.std.specs.Prelude.{IfOk};
 ghost use Rattle.mesh_topology.specs.Tables.{AreSets, IsLower, IsSmallMesh};
 
+use crate::corner_sets::starts;
 use crate::tables::{cell_edges, cell_faces, cell_vertices, edges, face_edges, faces};
 use liszt_base::{NoMemory, RawMesh};
 use std::alloc::Global;
@@ -44,9 +45,27 @@ pub fn build_lower(alloc: Global, raw: &RawMesh) -> Result<Lower, NoMemory>
     ensures { IfOk result (IsLower raw.now) }
 {
     let sets = build_sets(alloc, raw)?;
-    let face_edges = face_edges(alloc, sets.edges.as_slice(), sets.faces.as_slice())?;
-    let cell_edges = cell_edges(alloc, sets.edges.as_slice(), sets.cells.as_slice())?;
-    let cell_faces = cell_faces(alloc, sets.faces.as_slice(), sets.cells.as_slice())?;
+    let vertices = raw.points().len() as u32;
+    let edge_starts = starts(alloc, sets.edges.as_slice(), vertices)?;
+    let face_starts = starts(alloc, sets.faces.as_slice(), vertices)?;
+    let face_edges = face_edges(
+        alloc,
+        sets.edges.as_slice(),
+        edge_starts.as_slice(),
+        sets.faces.as_slice(),
+    )?;
+    let cell_edges = cell_edges(
+        alloc,
+        sets.edges.as_slice(),
+        edge_starts.as_slice(),
+        sets.cells.as_slice(),
+    )?;
+    let cell_faces = cell_faces(
+        alloc,
+        sets.faces.as_slice(),
+        face_starts.as_slice(),
+        sets.cells.as_slice(),
+    )?;
     Ok(Lower {
         sets,
         face_edges,

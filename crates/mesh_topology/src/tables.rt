@@ -3,7 +3,7 @@
 ghost use Rattle.std.specs.Prelude.{IfOk};
 ghost use Rattle.std.specs.List.{All, AllZip, flat_map};
 ghost use Rattle.std.specs.List.Sorted.{IsNonDecreasing, IsPermutation};
-ghost use Rattle.mesh_topology.specs.Choices.{choices, AreRanks, HasChoices, IsAscending, IsSmallTable, IsTableOf};
+ghost use Rattle.mesh_topology.specs.Choices.{choices, AreRanks, HasChoices, IsAscending, IsIndexed, IsTableOf};
 
 use crate::corner_sets::{make_table, pairs_of_four, pairs_of_three, ranks, triples_of_four};
 use liszt_base::{NoMemory, RawCell};
@@ -58,15 +58,16 @@ pub fn faces(alloc: Global, cells: &[[u32; 4]]) -> Result<Vec<[u32; 3]>, NoMemor
 pub fn face_edges(
     alloc: Global,
     edges: &[[u32; 2]],
+    starts: &[usize],
     faces: &[[u32; 3]],
 ) -> Result<Vec<[u32; 3]>, NoMemory>
-    requires table { IsSmallTable edges.now }
+    requires table { IsIndexed edges.now starts.now }
     requires inside { All (HasChoices 2 edges.now) faces.now }
     ensures { IfOk result (λ rows. AllZip (λ corners ids. AreRanks edges.now (choices 2 corners) ids) faces.now rows.items) }
 {
     let mut rows = Vec::new(alloc);
     for corners in faces {
-        rows.push(ranks(edges, &pairs_of_three(*corners)))?;
+        rows.push(ranks(edges, starts, &pairs_of_three(*corners)))?;
     }
     Ok(rows)
 }
@@ -75,15 +76,16 @@ pub fn face_edges(
 pub fn cell_edges(
     alloc: Global,
     edges: &[[u32; 2]],
+    starts: &[usize],
     cells: &[[u32; 4]],
 ) -> Result<Vec<[u32; 6]>, NoMemory>
-    requires table { IsSmallTable edges.now }
+    requires table { IsIndexed edges.now starts.now }
     requires inside { All (HasChoices 2 edges.now) cells.now }
     ensures { IfOk result (λ rows. AllZip (λ corners ids. AreRanks edges.now (choices 2 corners) ids) cells.now rows.items) }
 {
     let mut rows = Vec::new(alloc);
     for corners in cells {
-        rows.push(ranks(edges, &pairs_of_four(*corners)))?;
+        rows.push(ranks(edges, starts, &pairs_of_four(*corners)))?;
     }
     Ok(rows)
 }
@@ -92,15 +94,16 @@ pub fn cell_edges(
 pub fn cell_faces(
     alloc: Global,
     faces: &[[u32; 3]],
+    starts: &[usize],
     cells: &[[u32; 4]],
 ) -> Result<Vec<[u32; 4]>, NoMemory>
-    requires table { IsSmallTable faces.now }
+    requires table { IsIndexed faces.now starts.now }
     requires inside { All (HasChoices 3 faces.now) cells.now }
     ensures { IfOk result (λ rows. AllZip (λ corners ids. AreRanks faces.now (choices 3 corners) ids) cells.now rows.items) }
 {
     let mut rows = Vec::new(alloc);
     for corners in cells {
-        rows.push(ranks(faces, &triples_of_four(*corners)))?;
+        rows.push(ranks(faces, starts, &triples_of_four(*corners)))?;
     }
     Ok(rows)
 }

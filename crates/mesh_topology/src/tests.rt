@@ -68,16 +68,21 @@ fn edge_is(mesh: &Mesh, a: u32, b: u32, expected: Option<u32>) -> bool {
     a < vertices && b < vertices && mesh.edge_number(a, b) == expected
 }
 
+/// What lies beside what in the two cells.
+fn is_as_drawn(mesh: &Mesh) -> bool {
+    vertices_near(mesh, 0, &[1, 2, 3])
+        && vertices_near(mesh, 1, &[0, 2, 3, 4])
+        && edges_near(mesh, 6, &[6, 7, 8])
+        && cells_near(mesh, 0, &[1])
+        && sides_are(mesh, 3, 0, Some(1))
+        && sides_are(mesh, 0, 0, None)
+        && edge_is(mesh, 4, 1, Some(5))
+        && edge_is(mesh, 0, 4, None)
+}
+
 #[test]
-fn elements_lie_near(rt: HostRuntime) -> Result<(), Fail> {
+fn two_cells_are_as_drawn(rt: HostRuntime) -> Result<(), Fail> {
     let mesh = built(rt.alloc())?;
-    assert!(rt; vertices_near(&mesh, 0, &[1, 2, 3]));
-    assert!(rt; vertices_near(&mesh, 1, &[0, 2, 3, 4]));
-    assert!(rt; edges_near(&mesh, 6, &[6, 7, 8]));
-    assert!(rt; cells_near(&mesh, 0, &[1]));
-    assert!(rt; sides_are(&mesh, 3, 0, Some(1)));
-    assert!(rt; sides_are(&mesh, 0, 0, None));
-    assert!(rt; edge_is(&mesh, 4, 1, Some(5)));
-    assert!(rt; edge_is(&mesh, 0, 4, None));
+    assert!(rt; is_as_drawn(&mesh));
     Ok(())
 }
