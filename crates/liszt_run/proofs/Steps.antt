@@ -57,27 +57,6 @@ step_fault files input name Tells Itself before now seen ended h more = inr (inr
     go (inl long) = let no : Ok seen ≡ Err (too_long input) = long.1 in cc
     go (inr w) = inr (w.0, more h.0 w.1)
 
--- a file's fault leaves the shelf's count, and is no usage
-pub quiet : {A : Type 0} (before now : ℕ) (ended : Ended) → IsFileFault ended → now ≡ before → HasStepCause {A = A} before now (Err ended)
-quiet before now Later f h = h
-quiet before now (Mesh fault) f h = h
-quiet before now (Limit fault) f h = h
-quiet before now Done f h = absurd f
-quiet before now Usage f h = absurd f
-quiet before now (ReadFault x) f h = absurd f
-quiet before now WriteFault f h = absurd f
-quiet before now NoMemory f h = absurd f
-
-pub not_usage : {A : Type 0} (ended : Ended) → IsFileFault ended → ◌≡◌ {A = Result A Ended} (Err ended) (Err Usage) → ⊥
-not_usage Later f e = cc
-not_usage (Mesh fault) f e = cc
-not_usage (Limit fault) f e = cc
-not_usage Done f e = absurd f
-not_usage Usage f e = absurd f
-not_usage (ReadFault x) f e = absurd f
-not_usage WriteFault f e = absurd f
-not_usage NoMemory f e = absurd f
-
 -- From the steps to the command
 
 -- an input is refused

@@ -3,7 +3,7 @@ use Rattle.liszt_run.proofs.Steps.{lost_at}
 use Rattle.liszt_run.proofs.inputs.take_bytes.Goals as goal
 
 pub returns-in-Ok-clause-told : goal.returns-in-Ok-clause-told
-returns-in-Ok-clause-told g c files h = let w = c.in-Ok.ensures.whole files h in (w.0, w.1, w.2, w.3)
+returns-in-Ok-clause-told g c files h = let w = c.in-Ok.ensures.whole files h in (c.in-Ok.bytes, w.0, inr (w.1, refl), w.2)
 
 pub returns-in-Err-ReadFault-clause-told : goal.returns-in-Err-ReadFault-clause-told
 returns-in-Err-ReadFault-clause-told g c files h =
