@@ -5,9 +5,9 @@ mod command;
 mod ended;
 mod inputs;
 mod laws;
-mod report;
 #[cfg(test)]
 mod mesh_faults;
+mod report;
 #[cfg(test)]
 mod tests;
 mod top;

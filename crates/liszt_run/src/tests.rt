@@ -1,9 +1,11 @@
-ghost use Rattle.std.specs.Prelude.{◌≡◌, ◌<◌, IfOk, None};
+ghost use Rattle.std.specs.Prelude.{◌≡◌, ◌<◌, IfOk, None, length};
 ghost use Rattle.liszt_io.specs.Causes.{HasCause};
 
 use crate::ended::{Ended, status_of};
 use crate::top::run_words;
-use liszt_base::{ByteList, Input, MeshFile, NoMemory, OpenGate, Refused, WordList};
+use liszt_base::{
+    ByteList, Input, MeshFault, MeshFile, MeshWhat, NoMemory, OpenGate, Point, Refused, WordList,
+};
 use liszt_io::{
     CallList, Failed, FileList, HeldFile, HostShelf, HostSink, MemoryShelf, MemorySink, Shelf, Sink,
 };
@@ -15,13 +17,14 @@ use std::rt::Files;
 use std::sync::Wait;
 use std::test::Fail;
 use std::thread::Threads;
-use tet_reader::read_plain_mesh;
+use tet_reader::{read_mesh, read_points};
+use text_scan::{Lines, Rows, rows_of};
 
 const PROGRAM: &str = "field A : Cell = 5;\nfor (c <- cells(mesh)) { A(c) += 2 }\n";
 
-const NODE: &str = "5 3 0 0\n0 0 0 0\n1 1 0 0\n2 0 1 0\n3 0 0 1\n4 1 1 1\n";
+pub(crate) const NODE: &str = "5 3 0 0\n0 0 0 0\n1 1 0 0\n2 0 1 0\n3 0 0 1\n4 1 1 1\n";
 
-const ELE: &str = "2 4 0\n0 0 1 2 3\n1 1 2 3 4\n";
+pub(crate) const ELE: &str = "2 4 0\n0 0 1 2 3\n1 1 2 3 4\n";
 
 const TEXT: &str = "A 0 7\nA 1 7\n";
 
@@ -108,18 +111,15 @@ fn program_row<R: Threads + Wait + Abort + AllocGlobal + Sync>(
     row(rt, program, NODE, ELE, "later program\n", 11)
 }
 
-fn node_row<R: Threads + Wait + Abort + AllocGlobal + Sync>(
+/// One row of a table of meshes: two files, and the text and the status that the program of one loop gives on them.
+pub(crate) fn mesh_row<R: Threads + Wait + Abort + AllocGlobal + Sync>(
     rt: &R,
     node: &str,
-) -> Result<(), AllocError> {
-    row(rt, PROGRAM, node, ELE, "later node\n", 11)
-}
-
-fn ele_row<R: Threads + Wait + Abort + AllocGlobal + Sync>(
-    rt: &R,
     ele: &str,
+    text: &str,
+    status: u8,
 ) -> Result<(), AllocError> {
-    row(rt, PROGRAM, NODE, ele, "later ele\n", 11)
+    row(rt, PROGRAM, node, ele, text, status)
 }
 
 #[test]
@@ -216,84 +216,11 @@ fn plain_programs(rt: HostRuntime) -> Result<(), Fail> {
     Ok(())
 }
 
-/// The edges of the node file's form.
+/// A program that isn't plain comes before a fault of the mesh.
 #[test]
-fn plain_nodes(rt: HostRuntime) -> Result<(), Fail> {
-    let rt = &rt;
+fn later_before_the_mesh(rt: HostRuntime) -> Result<(), Fail> {
     row(
-        rt,
-        PROGRAM,
-        "05 3 0 0\n00 0 0 0\n1 1 0 0\n2 0 1 0\n3 0 0 1\n4 1 1 1\n",
-        ELE,
-        TEXT,
-        0,
-    )?;
-    row(
-        rt,
-        PROGRAM,
-        "4 3 0 0\n1 0 0 0\n2 1 0 0\n3 0 1 0\n4 0 0 1\n",
-        "1 4 0\n1 1 2 3 4\n",
-        "A 0 7\n",
-        0,
-    )?;
-    node_row(rt, "")?;
-    node_row(rt, "0 3 0 0\n")?;
-    node_row(rt, "200001 3 0 0\n")?;
-    node_row(rt, "5 3 0\n0 0 0 0\n1 1 0 0\n2 0 1 0\n3 0 0 1\n4 1 1 1\n")?;
-    node_row(
-        rt,
-        "5 03 0 0\n0 0 0 0\n1 1 0 0\n2 0 1 0\n3 0 0 1\n4 1 1 1\n",
-    )?;
-    node_row(rt, "2 3 0 0\n2 0 0 0\n3 1 0 0\n")?;
-    node_row(rt, "2 3 0 0\n0 0 0 0\n2 1 0 0\n")?;
-    node_row(rt, "3 3 0 0\n0 0 0 0\n1 1 0 0\n")?;
-    node_row(rt, "1 3 0 0\n0 0 0 0\n1 1 0 0\n")?;
-    node_row(rt, "2 3 0 0\n0 0 0 0\n1 1 0 0")?;
-    node_row(rt, "1 3 0 0\n0 1234567890 0 0\n")?;
-    node_row(rt, "1 3 0 0\n0 -1 0 0\n")?;
-    node_row(rt, "1 3 0 0\n0 0.5 0 0\n")?;
-    node_row(rt, "1 3 0 0\n0 0 0 0 1\n")?;
-    node_row(rt, "1 3 0 0\n0 0 0\n")?;
-    node_row(rt, "# by hand\n1 3 0 0\n0 0 0 0\n")?;
-    node_row(rt, "1 3 0 0\r\n0 0 0 0\r\n")?;
-    node_row(rt, "1 3 0 0\n\n0 0 0 0\n")?;
-    node_row(rt, "1 3 0 0\n0 0 0 0 \n")?;
-    Ok(())
-}
-
-/// The edges of the ele file's form.
-#[test]
-fn plain_eles(rt: HostRuntime) -> Result<(), Fail> {
-    let rt = &rt;
-    row(rt, PROGRAM, NODE, "0 4 0\n", "", 0)?;
-    row(rt, PROGRAM, NODE, "1 4 0\n1 0 1 2 3\n", "A 0 7\n", 0)?;
-    row(rt, PROGRAM, NODE, "2 4 0\n0 0 1 2 3\n1 3 2 1 0\n", TEXT, 0)?;
-    ele_row(rt, "")?;
-    ele_row(rt, "1000001 4 0\n")?;
-    ele_row(rt, "1 4 1\n0 0 1 2 3 0\n")?;
-    ele_row(rt, "1 10 0\n0 0 1 2 3\n")?;
-    ele_row(rt, "1 4 0\n0 0 1 2 5\n")?;
-    ele_row(rt, "1 4 0\n0 0 1 2 2\n")?;
-    ele_row(rt, "1 4 0\n0 0 1 0 2\n")?;
-    ele_row(rt, "1 4 0\n2 0 1 2 3\n")?;
-    ele_row(rt, "2 4 0\n0 0 1 2 3\n0 1 2 3 4\n")?;
-    ele_row(rt, "2 4 0\n0 0 1 2 3\n")?;
-    ele_row(rt, "1 4 0\n0 0 1 2 3\n1 1 2 3 4\n")?;
-    ele_row(rt, "1 4 0\n0 0 1 2 3")?;
-    ele_row(rt, "1 4 0\n0 0 1 2\n")?;
-    ele_row(rt, "1 4 0\n0 0 1 2 0000000003\n")?;
-    ele_row(rt, "0 4 0\n\n")?;
-    row(
-        rt,
-        PROGRAM,
-        "4 3 0 0\n1 0 0 0\n2 1 0 0\n3 0 1 0\n4 0 0 1\n",
-        "1 4 0\n1 0 1 2 3\n",
-        "later ele\n",
-        11,
-    )?;
-    row(rt, PROGRAM, "no mesh\n", "no mesh\n", "later node\n", 11)?;
-    row(
-        rt,
+        &rt,
         "no program\n",
         "no mesh\n",
         "no mesh\n",
@@ -303,28 +230,150 @@ fn plain_eles(rt: HostRuntime) -> Result<(), Fail> {
     Ok(())
 }
 
-/// The reader of both files: what they spell, and the first file outside its form.
+/// The points of a node file made by hand, with a comment first and last and CR LF behind each line.
+#[test]
+fn points_made_by_hand(rt: HostRuntime) -> Result<(), Fail> {
+    let alloc = rt.alloc();
+    let text =
+        b"# by hand\r\n4 3 0 0\r\n1 1e-05 -0.0000019 .5\r\n2 1 0 0\r\n3 0 1 0\r\n4 0 0 1\r\n# Generated by tetgen\r\n";
+    let rows = rows_of(alloc, text).map_err(|_| AllocError)?;
+    let table = read_points(alloc, &rows).map_err(|_| AllocError)?;
+    let points = table.list.as_slice();
+    assert_eq!(&rt; points.len(), 4);
+    assert_eq!(&rt;
+        points[0],
+        Point {
+            x: 10,
+            y: -1,
+            z: 500_000,
+            mark: 0
+        }
+    );
+    assert_eq!(&rt;
+        points[1],
+        Point {
+            x: 1_000_000,
+            y: 0,
+            z: 0,
+            mark: 0
+        }
+    );
+    assert_eq!(&rt;
+        points[2],
+        Point {
+            x: 0,
+            y: 1_000_000,
+            z: 0,
+            mark: 0
+        }
+    );
+    assert_eq!(&rt;
+        points[3],
+        Point {
+            x: 0,
+            y: 0,
+            z: 1_000_000,
+            mark: 0
+        }
+    );
+    assert_eq!(&rt; table.base, 1);
+    Ok(())
+}
+
+/// The reader of both files: what they spell, attributes, marker and region among it, and a fault.
 #[test]
 fn both_files(rt: HostRuntime) -> Result<(), Fail> {
     let alloc = rt.alloc();
-    let mesh = read_plain_mesh(alloc, NODE.as_bytes(), ELE.as_bytes()).map_err(|_| AllocError)?;
-    let points = mesh.points();
-    let cells = mesh.cells();
-    assert_eq!(&rt; points.len(), 5);
-    assert_eq!(&rt; points[4].x, 1_000_000);
-    assert_eq!(&rt; points[3].y, 0);
-    assert_eq!(&rt; points[3].z, 1_000_000);
-    assert_eq!(&rt; points[3].mark, 0);
-    assert_eq!(&rt; cells.len(), 2);
-    assert_eq!(&rt; cells[1].corners, [1, 2, 3, 4]);
-    assert_eq!(&rt; cells[1].region, 0);
-    assert_eq!(&rt; mesh.base(), 0);
-    for (node, ele, outside) in [(NODE, "", MeshFile::Ele), ("", "", MeshFile::Node)] {
-        let fault = match read_plain_mesh(alloc, node.as_bytes(), ele.as_bytes()) {
-            Err(Refused::Fault(file)) => Some(file),
-            _ => None,
-        };
-        assert_eq!(&rt; fault, Some(outside));
+    let node = b"4 3 1 1\n1 1 2 3 .5 7\n2 0 1 0 0 -1\n3 0 0 1 0 0\n4 1 1 1 1e3 2\n";
+    let mesh = read_mesh(alloc, node, b"1 4 2\n0 4 2 3 1 2.5 9\n").map_err(|_| AllocError)?;
+    assert_eq!(&rt; mesh.points().len(), 4);
+    assert_eq!(&rt;
+        mesh.points()[0],
+        Point {
+            x: 1_000_000,
+            y: 2_000_000,
+            z: 3_000_000,
+            mark: 7
+        }
+    );
+    assert_eq!(&rt; mesh.cells().len(), 1);
+    assert_eq!(&rt; mesh.cells()[0].corners, [3, 1, 2, 0]);
+    assert_eq!(&rt; mesh.cells()[0].region, 2_500_000);
+    assert_eq!(&rt; mesh.base(), 1);
+    let fault = match read_mesh(alloc, node, b"1 4\n0 4 2 3 9\n") {
+        Err(Refused::Fault(fault)) => Some(fault),
+        _ => None,
+    };
+    let line_two = MeshFault {
+        file: MeshFile::Ele,
+        line: 2,
+        what: MeshWhat::CornerRange,
+        number: 0,
+    };
+    assert_eq!(&rt; fault, Some(line_two));
+    Ok(())
+}
+
+/// Whether a text that is fed in pieces of this size gives the rows of the whole.
+fn same_in_pieces(alloc: Global, text: &[u8], size: usize) -> Result<bool, NoMemory> {
+    let whole = rows_of(alloc, text)?;
+    let mut lines = Lines::new(alloc);
+    for piece in text.chunks(size.max(1)) {
+        lines.feed(piece)?;
+    }
+    Ok(same_rows(&whole, &lines.finish()?))
+}
+
+/// Whether a text that is cut in two at this place gives the rows of the whole.
+fn same_in_two(alloc: Global, text: &[u8], place: usize) -> Result<bool, NoMemory> {
+    let whole = rows_of(alloc, text)?;
+    let (front, back) = text.split_at(place.min(text.len()));
+    let mut lines = Lines::new(alloc);
+    lines.feed(front)?;
+    lines.feed(back)?;
+    Ok(same_rows(&whole, &lines.finish()?))
+}
+
+fn same_rows(a: &Rows, b: &Rows) -> bool {
+    if a.len() != b.len() || a.last_line() != b.last_line() {
+        return false;
+    }
+    for place in 0..a.len() {
+        if place >= b.len() || !same_row(a, b, place) {
+            return false;
+        }
+    }
+    true
+}
+
+fn same_row(a: &Rows, b: &Rows, place: usize) -> bool
+    requires first { place < length a.now.rows }
+    requires second { place < length b.now.rows }
+{
+    if a.line(place) != b.line(place) || a.words(place) != b.words(place) {
+        return false;
+    }
+    for number in 0..a.words(place) {
+        if number >= b.words(place) || a.word(place, number) != b.word(place, number) {
+            return false;
+        }
+    }
+    true
+}
+
+const CUT: &[u8] = b"# by hand\r\n2 3 0 0\r\n1 1e-05 -0.0000019 .5 # x\n\n\t2  1 0 0\r";
+
+/// Whatever the pieces of a text, its rows are the same: pieces of 1, 2, 3 and 7 bytes, and two pieces at every cut.
+#[test]
+fn pieces_give_the_same_rows(rt: HostRuntime) -> Result<(), Fail> {
+    let alloc = rt.alloc();
+    for size in [1, 2, 3, 7] {
+        let same = same_in_pieces(alloc, CUT, size).map_err(|_| AllocError)?;
+        assert!(&rt; same, "pieces of {size}");
+    }
+    for place in 0..CUT.len() + 1 {
+        let same = same_in_two(alloc, CUT, place).map_err(|_| AllocError)?;
+        assert!(&rt; same, "cut at {place}");
     }
     Ok(())
 }
@@ -448,8 +497,8 @@ impl Shelf for Endless {
 fn too_long(rt: HostRuntime) -> Result<(), Fail> {
     let mut shelf = Endless;
     let (ended, out) = run_into(&rt, &mut shelf, 1000, 0)?;
-    assert_eq!(&rt; out.bytes(), b"later program\n".as_slice());
-    assert_eq!(&rt; status_of(ended), 11);
+    assert_eq!(&rt; out.bytes(), b"limit File program over 67108864\n".as_slice());
+    assert_eq!(&rt; status_of(ended), 6);
     Ok(())
 }
 

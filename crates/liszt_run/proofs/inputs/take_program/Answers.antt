@@ -10,5 +10,8 @@ use Rattle.liszt_run.proofs.inputs.take_program.Goals as goal
 pub returns-clause-told : goal.returns-clause-told
 returns-clause-told g c files h =
     step_fault files Program c.args.name.now ProgramTells TellsItself _ _ c.in_ok-bytes.bytes Later (c.in_ok-bytes.ensures.told files h)
-    (λ bytes same. (refl, λ program spelled.
-    c.in-None.ensures.none program (subst (λ (b : List ℕ). IsPlainProgram b program) (sym (c.as_slice.ensures ∙ same)) spelled)))
+    (λ bytes same. (
+      refl,
+      λ program spelled.
+          c.in-None.ensures.none program (subst (λ (b : List ℕ). IsPlainProgram b program) (sym (c.as_slice.ensures ∙ same)) spelled),
+    ))

@@ -4,5 +4,11 @@ use Rattle.liszt_run.proofs.report.set_limit.Goals as goal
 
 pub count-requires : goal.count-requires
 count-requires c =
-    omega (arith, count_short c.args.allowed c.ranges.allowed.fits, c.add_limit.ensures.short, simp length-append at (ap length c.text.ensures),
-      simp length-append at (ap length c.text-2.ensures), ap length c.requires)
+    omega (
+      arith,
+      count_short c.args.allowed c.ranges.allowed.fits,
+      c.add_limit.ensures.short,
+      simp length-append at (ap length c.text.ensures),
+      simp length-append at (ap length c.text-2.ensures),
+      ap length c.requires,
+    )

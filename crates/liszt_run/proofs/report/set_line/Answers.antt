@@ -8,5 +8,11 @@ number-requires c =
 
 pub number-requires-2 : goal.number-requires-2
 number-requires-2 c =
-    omega (arith, value_short c.args.value c.ranges.value, simp length-append at (ap length c.text-2.ensures), c.number.ensures.short,
-      simp length-append at (ap length c.text.ensures), ap length c.clear.ensures)
+    omega (
+      arith,
+      value_short c.args.value c.ranges.value,
+      simp length-append at (ap length c.text-2.ensures),
+      c.number.ensures.short,
+      simp length-append at (ap length c.text.ensures),
+      ap length c.clear.ensures,
+    )

@@ -4,6 +4,15 @@ use Rattle.liszt_run.proofs.report.set_mesh.Goals as goal
 
 pub count-requires : goal.count-requires
 count-requires c =
-    omega (arith, count_short c.from.result c.from.type_inv, c.mesh_word.ensures.short, c.file_word.ensures.short, simp length-append at (ap length c.text.ensures),
-      simp length-append at (ap length c.text-2.ensures), simp length-append at (ap length c.text-3.ensures),
-      simp length-append at (ap length c.text-4.ensures), simp length-append at (ap length c.text-5.ensures), ap length c.requires)
+    omega (
+      arith,
+      count_short c.from.result c.from.type_inv,
+      c.mesh_word.ensures.short,
+      c.file_word.ensures.short,
+      simp length-append at (ap length c.text.ensures),
+      simp length-append at (ap length c.text-2.ensures),
+      simp length-append at (ap length c.text-3.ensures),
+      simp length-append at (ap length c.text-4.ensures),
+      simp length-append at (ap length c.text-5.ensures),
+      ap length c.requires,
+    )
