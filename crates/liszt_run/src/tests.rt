@@ -497,7 +497,10 @@ impl Shelf for Endless {
 fn too_long(rt: HostRuntime) -> Result<(), Fail> {
     let mut shelf = Endless;
     let (ended, out) = run_into(&rt, &mut shelf, 1000, 0)?;
-    assert_eq!(&rt; out.bytes(), b"limit File program over 67108864\n".as_slice());
+    assert_eq!(&rt;
+        out.bytes(),
+        b"limit File program over 67108864\n".as_slice()
+    );
     assert_eq!(&rt; status_of(ended), 6);
     Ok(())
 }
