@@ -108,7 +108,7 @@ fn print_assigned(out: &mut ByteList, how: How, value: &Expr) -> Result<(), NoMe
 }
 
 /// Adds the line of a `print`.
-fn print_print(out: &mut ByteList, depth: usize, value: &Expr) -> Result<(), NoMemory>
+fn print_output(out: &mut ByteList, depth: usize, value: &Expr) -> Result<(), NoMemory>
     ensures { OnOk result (out.new ≡ out.old ++ closed_line depth (codes "print " ++ text_of (expression value.now))) }
 {
     print_blanks(out, depth)?;
@@ -313,7 +313,7 @@ fn print_item(out: &mut ByteList, depth: usize, item: &Item) -> Result<(), NoMem
             print_block(out, depth, body.as_slice())?;
             print_line(out, depth, b"}")
         }
-        Item::Print { value, .. } => print_print(out, depth, value),
+        Item::Print { value, .. } => print_output(out, depth, value),
     }
 }
 
