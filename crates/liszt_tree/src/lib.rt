@@ -4,8 +4,12 @@
 mod cases;
 pub mod laws;
 mod mapped;
+mod print;
+mod print_expression;
 mod tree;
+mod words;
 
+pub use print::print_tree;
 pub use tree::{
     Expr, Fun, How, Item, ItemList, Level, Link, LinkList, Name, Program, Rel, Sign, Stmt, StmtList,
 };

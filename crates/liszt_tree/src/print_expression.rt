@@ -1,0 +1,124 @@
+//! The canonical text of an expression.
+
+ghost use Rattle.std.specs.Prelude.{◌≡◌, ◌++◌, map, OnOk};
+ghost use Rattle.std.specs.Fmt.{signed_decimal};
+ghost use Rattle.liszt_tree.specs.Canonical as Text;
+ghost use Rattle.liszt_tree.specs.Canonical.{bracketed, text_of, links_text};
+ghost use Rattle.liszt_tree.specs.Tree.{expression, links_of};
+
+use crate::tree::{Expr, Link};
+use crate::words::{chain_level, fun_word, rel_text, sign_text};
+use itoa::Buffer;
+use liszt_base::{ByteList, NoMemory};
+
+/// The level of the prefix operators.
+const PREFIX: u8 = 6;
+
+/// The level of the comparisons.
+const COMPARISON: u8 = 3;
+
+/// The level of an expression.
+fn level_of(e: &Expr) -> u8
+    ensures { result ≡ Text.level_of (expression e.now) }
+{
+    match e {
+        Expr::Chain { level, .. } => chain_level(*level),
+        Expr::Compare { .. } => COMPARISON,
+        Expr::Neg { .. } | Expr::Not { .. } => PREFIX,
+        _ => 7,
+    }
+}
+
+/// Adds a number, in decimal digits, with its sign.
+fn print_number(out: &mut ByteList, value: i64) -> Result<(), NoMemory>
+    ensures { OnOk result (out.new ≡ out.old ++ signed_decimal value) }
+{
+    let mut buffer = Buffer::new();
+    out.extend(buffer.format(value).as_bytes())
+}
+
+/// Adds a sign between two blanks.
+pub fn print_spaced(out: &mut ByteList, text: &[u8]) -> Result<(), NoMemory>
+    ensures { OnOk result (out.new ≡ out.old ++ Text.spaced text.now) }
+{
+    out.extend(b" ")?;
+    out.extend(text)?;
+    out.extend(b" ")
+}
+
+/// Adds an expression.
+#[cycle(print)]
+pub fn print_expression(out: &mut ByteList, e: &Expr) -> Result<(), NoMemory>
+    ensures { OnOk result (out.new ≡ out.old ++ text_of (expression e.now)) }
+{
+    match e {
+        Expr::Number { value, .. } => print_number(out, *value),
+        Expr::Name { name, .. } => out.extend(name.as_slice()),
+        Expr::Field { name, arg, .. } => {
+            out.extend(name.as_slice())?;
+            print_operand(out, true, arg.get())
+        }
+        Expr::Call { fun, arg, .. } => {
+            out.extend(fun_word(*fun))?;
+            print_operand(out, true, arg.get())
+        }
+        Expr::Towards { arg, to, .. } => {
+            out.extend(b"towards(")?;
+            print_expression(out, arg.get())?;
+            out.extend(b", ")?;
+            print_expression(out, to.get())?;
+            out.extend(b")")
+        }
+        Expr::Neg { arg, .. } => {
+            out.extend(b"-")?;
+            let arg = arg.get();
+            print_operand(out, level_of(arg) < PREFIX, arg)
+        }
+        Expr::Not { arg, .. } => {
+            out.extend(b"!")?;
+            let arg = arg.get();
+            print_operand(out, level_of(arg) < PREFIX, arg)
+        }
+        Expr::Chain { level, first, rest } => {
+            let (level, first) = (chain_level(*level), first.get());
+            print_operand(out, level_of(first) <= level, first)?;
+            print_links(out, level, rest.as_slice())
+        }
+        Expr::Compare {
+            rel,
+            left,
+            right,
+            ..
+        } => {
+            let (left, right) = (left.get(), right.get());
+            print_operand(out, level_of(left) <= COMPARISON, left)?;
+            print_spaced(out, rel_text(*rel))?;
+            print_operand(out, level_of(right) <= COMPARISON, right)
+        }
+    }
+}
+
+/// Adds an expression, in brackets or not.
+#[cycle(print)]
+fn print_operand(out: &mut ByteList, in_brackets: bool, e: &Expr) -> Result<(), NoMemory>
+    ensures { OnOk result (out.new ≡ out.old ++ bracketed in_brackets (text_of (expression e.now))) }
+{
+    if !in_brackets {
+        return print_expression(out, e);
+    }
+    out.extend(b"(")?;
+    print_expression(out, e)?;
+    out.extend(b")")
+}
+
+/// Adds the further operands of a chain, each behind its operator.
+#[cycle(print)]
+fn print_links(out: &mut ByteList, level: u8, links: &[Link]) -> Result<(), NoMemory>
+    ensures { OnOk result (out.new ≡ out.old ++ links_text level (links_of (map (λ l. (l.op, l.place, expression l.arg)) links.now))) }
+{
+    for link in links {
+        print_spaced(out, sign_text(link.op))?;
+        print_operand(out, level_of(&link.arg) <= level, &link.arg)?;
+    }
+    Ok(())
+}
