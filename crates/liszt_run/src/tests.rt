@@ -314,6 +314,24 @@ fn both_files(rt: HostRuntime) -> Result<(), Fail> {
     Ok(())
 }
 
+/// Whether a text of at most a thousand bytes that is fed in pieces of this size gives the rows of the whole.
+fn same_in_pieces(alloc: Global, text: &[u8], size: usize) -> Result<bool, NoMemory> {
+    if text.len() > 1000 {
+        return Ok(false);
+    }
+    let whole = rows_of(alloc, text)?;
+    let mut lines = Lines::new(alloc);
+    let mut count = 0usize;
+    for piece in text.chunks(size.max(1)) {
+        if count > 1000 || piece.len() > 1000 {
+            return Ok(false);
+        }
+        lines.feed(piece)?;
+        count += piece.len();
+    }
+    Ok(same_rows(&whole, &lines.finish()?))
+}
+
 /// Whether a text of at most a thousand bytes that is fed in two pieces gives the rows of the whole.
 fn same_in_two(alloc: Global, text: &[u8], place: usize) -> Result<bool, NoMemory> {
     let (front, back) = text.split_at(place.min(text.len()));
@@ -356,10 +374,14 @@ fn same_row(a: &Rows, b: &Rows, place: usize) -> bool
 
 const CUT: &[u8] = b"# by hand\r\n2 3 0 0\r\n1 1e-05 -0.0000019 .5 # x\n\n\t2  1 0 0\r";
 
-/// A text in two pieces has the same rows as the whole, wherever it is cut.
+/// Whatever the pieces of a text, its rows are the same: pieces of 1, 2, 3 and 7 bytes, and two pieces at every cut.
 #[test]
 fn pieces_give_the_same_rows(rt: HostRuntime) -> Result<(), Fail> {
     let alloc = rt.alloc();
+    for size in [1, 2, 3, 7] {
+        let same = same_in_pieces(alloc, CUT, size).map_err(|_| AllocError)?;
+        assert!(&rt; same, "pieces of {size}");
+    }
     for place in 0..CUT.len() + 1 {
         let same = same_in_two(alloc, CUT, place).map_err(|_| AllocError)?;
         assert!(&rt; same, "cut at {place}");
