@@ -1,2 +1,3 @@
 pub mod Along
-pub mod Towards
+pub mod Pointing
+pub mod Swapped
