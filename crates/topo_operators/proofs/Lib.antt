@@ -1,3 +1,4 @@
 pub mod Along
 pub mod Pointing
 pub mod Swapped
+pub mod Turns

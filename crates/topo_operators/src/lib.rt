@@ -5,5 +5,7 @@
 mod cases;
 pub mod laws;
 mod operators;
+mod sets;
 
 pub use operators::{flip, head, id_of, inside, outside, same, tail, towards, valid};
+pub use sets::{SetMembers, members};
