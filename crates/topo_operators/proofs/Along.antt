@@ -37,7 +37,7 @@ pair_swapped a b = same_by (a ∷ b ∷ []) (b ∷ a ∷ []) (swap a b) (swap b 
   swap y z x m = grind arith
 
 -- three equal pairs make equal lists
-pub three_equal : {x x' y y' z z' : Elem} → x ≡ x' → y ≡ y' → z ≡ z' → x ∷ y ∷ z ∷ [] ≡ x' ∷ y' ∷ z' ∷ []
+three_equal : {x x' y y' z z' : Elem} → x ≡ x' → y ≡ y' → z ≡ z' → x ∷ y ∷ z ∷ [] ≡ x' ∷ y' ∷ z' ∷ []
 three_equal p q r = rw (p, q, r) refl
 
 -- the edge of a step is found

@@ -6,6 +6,8 @@ mod cases;
 pub mod laws;
 mod operators;
 mod sets;
+#[cfg(test)]
+mod tests;
 
 pub use operators::{flip, head, id_of, inside, outside, same, tail, towards, valid};
 pub use sets::{SetMembers, members};

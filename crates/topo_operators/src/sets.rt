@@ -1,7 +1,7 @@
 //! The sets of an element, each as an iterator over its members.
 
 ghost use Rattle.std.specs.Prelude.{◌≡◌, ◌<◌, ◌==◌, true, [], ◌∷◌, map, unwrap_or, slice_index};
-ghost use Rattle.std.specs.List.{find, list_any};
+ghost use Rattle.std.specs.List.{All, find};
 ghost use Rattle.std.specs.Iterator.{YieldsFirst};
 ghost use Rattle.liszt_base.specs.Corners.{is_in, includes, same_members, induced_cycles};
 ghost use Rattle.liszt_base.specs.declared.elements.Kind.TheVariants.{Vertex, Edge, Face, Cell};
@@ -189,15 +189,11 @@ fn edge_along(m: &Mesh, from: u32, to: u32) -> Elem
     }
 }
 
-/// The edges of a face along its cycle.
-fn edges_ccw(m: &Mesh, face: Elem) -> EdgesAlong
-    requires { IsElement m.now Face face }
-    ensures { result ≡ map (EdgeAlong m.now) (steps (CycleOf m.now face)) }
+/// The edges along a cycle.
+fn edges_of(m: &Mesh, cycle: [u32; 3]) -> EdgesAlong
+    requires { All (λ v. v < count m.now Vertex) cycle }
+    ensures { result ≡ map (EdgeAlong m.now) (steps cycle) }
 {
-    m.fits_together();
-    let Some(cycle) = cycle_of(m, face) else {
-        unreachable!()
-    };
     let [a, b, c] = cycle;
     let edges = [
         edge_along(m, a, b),
@@ -205,6 +201,18 @@ fn edges_ccw(m: &Mesh, face: Elem) -> EdgesAlong
         edge_along(m, c, a),
     ];
     EdgesAlong { edges, at: 0 }
+}
+
+/// The edges of a face along its cycle.
+fn edges_ccw(m: &Mesh, face: Elem) -> EdgesAlong
+    requires { IsElement m.now Face face }
+    ensures { result ≡ map (EdgeAlong m.now) (steps (CycleOf m.now face)) }
+{
+    m.fits_together();
+    match cycle_of(m, face) {
+        Some(cycle) => edges_of(m, cycle),
+        None => unreachable!(),
+    }
 }
 
 /// The elements of a kind near an element.
