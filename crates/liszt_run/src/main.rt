@@ -3,6 +3,8 @@
 
 mod command;
 mod ended;
+#[cfg(test)]
+mod incidence;
 mod inputs;
 mod laws;
 #[cfg(test)]

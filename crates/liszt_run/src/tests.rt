@@ -503,7 +503,7 @@ impl Shelf for Endless {
     }
 }
 
-/// A file past the limit of bytes is outside the form.
+/// A file past the limit of bytes is a limit.
 #[test]
 fn too_long(rt: HostRuntime) -> Result<(), Fail> {
     let mut shelf = Endless;

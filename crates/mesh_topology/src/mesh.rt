@@ -46,6 +46,13 @@ impl Mesh {
         Ok(Mesh { raw, lower, upper })
     }
 
+    /// What is known of every mesh: its cells fit together. It does nothing.
+    pub fn fits_together(&self)
+        ensures { IsMesh (length self.now.points) (corner_lists self.now) }
+    {
+        let _cells = self.raw.cells();
+    }
+
     /// How many elements of a kind there are.
     pub fn count(&self, kind: Kind) -> u32
         ensures { result ≡ count self.now kind }

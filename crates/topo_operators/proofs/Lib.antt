@@ -1,2 +1,4 @@
 pub mod Along
-pub mod Towards
+pub mod Pointing
+pub mod Swapped
+pub mod Turns

@@ -1,1 +1,3 @@
+pub mod Operands
 pub mod Operators
+pub mod Visits

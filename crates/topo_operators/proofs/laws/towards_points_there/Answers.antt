@@ -1,4 +1,4 @@
-use Rattle.topo_operators.proofs.Towards.{towards_some}
+use Rattle.topo_operators.proofs.Pointing.{towards_some}
 use Rattle.topo_operators.proofs.laws.towards_points_there.Goals as goal
 
 pub returns-clause-some : goal.returns-clause-some
