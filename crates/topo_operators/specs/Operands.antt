@@ -1,5 +1,5 @@
 -- What the operators and the sets ask of their operands. This project's own.
-use Rattle.std.specs.Prelude.{◌≡◌, ◌<◌, ◌⊎◌, true, false, Option, Some, None}
+use Rattle.std.specs.Prelude.{◌≡◌, ◌<◌, ◌⊎◌, true, Option, Some, None}
 use Rattle.liszt_base.specs.MeshLists.{MeshLists}
 use Rattle.liszt_base.specs.declared.elements.Elem.{Elem}
 use Rattle.liszt_base.specs.declared.elements.Kind.{Kind}
@@ -21,16 +21,7 @@ IsOf mesh kind (Some x) = IsElement mesh kind x
 abbrev pub CanPoint : MeshLists → Option Elem → Option Elem → Type 0
 CanPoint mesh x to = (IsOf mesh Edge x × IsOf mesh Vertex to) ⊎ (IsOf mesh Face x × IsOf mesh Cell to)
 
--- vertices and cells have one orientation
-abbrev pub IsOriented : Elem → Type 0
-IsOriented x = oriented x.kind where
-  oriented : Kind → Type 0
-  oriented Vertex = x.flipped ≡ false
-  oriented Cell = x.flipped ≡ false
-  oriented _ = Unit {0}
-
 -- an element of the mesh that has a set
 pub record CanVisit (mesh : MeshLists) (set : SetName) (x : Elem) : Type 0 where
   pub in_range : x.id < count mesh x.kind
   pub has : has_set x.kind set ≡ true
-  pub oriented : IsOriented x

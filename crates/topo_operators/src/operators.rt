@@ -46,7 +46,7 @@ pub fn head(m: &Mesh, x: Option<Elem>) -> Option<Elem>
     requires { IsOf m.now Edge x }
     ensures { result ≡ Head m.now x }
 {
-    tail(m, flip(x))
+    tail(m, flip(m, x))
 }
 
 /// The cell at the inside of a face: of the cells beside it the first, or the second, if any, where it is flipped.
@@ -65,11 +65,11 @@ pub fn outside(m: &Mesh, x: Option<Elem>) -> Option<Elem>
     requires { IsOf m.now Face x }
     ensures { result ≡ Outside m.now x }
 {
-    inside(m, flip(x))
+    inside(m, flip(m, x))
 }
 
-/// The other orientation of an edge or a face.
-pub fn flip(x: Option<Elem>) -> Option<Elem>
+/// The other orientation of an edge or a face. It takes the mesh as the other operators do, and reads nothing of it.
+pub fn flip(_m: &Mesh, x: Option<Elem>) -> Option<Elem>
     ensures { result ≡ Flip x }
 {
     Some(turned(x?))
