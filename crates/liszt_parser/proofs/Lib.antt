@@ -1,6 +1,7 @@
 pub mod FaultCases
 pub mod Faults
 pub mod FewNodes
+pub mod Nestings
 pub mod OneExpression
 pub mod OneFault
 pub mod OneStatement

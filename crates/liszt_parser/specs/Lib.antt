@@ -2,6 +2,8 @@ pub mod CaseTexts
 pub mod Cases
 pub mod Depth
 pub mod Grammar
+pub mod Nesting
+pub mod Operands
 pub mod ParseFault
 pub mod PlainProgram
 pub mod PlainReading

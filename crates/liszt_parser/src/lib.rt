@@ -5,6 +5,8 @@
 mod cases;
 mod fault_cases;
 pub mod laws;
+mod nesting;
+mod operand;
 mod plain;
 mod program_cases;
 mod word_cases;
