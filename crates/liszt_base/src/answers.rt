@@ -79,16 +79,17 @@ pub struct MeshFault {
     pub number: i64,
 }
 
-/// What has a limit: the bytes of a file, and the points and cells that a header names.
+/// What has a limit: the bytes of a file, the points and cells that a header names, and the tokens of a program.
 #[derive(Clone, Copy, Debug, PartialEq, Eq)]
 pub enum LimitWhat {
     File(Input),
     Points,
     Cells,
+    Tokens,
 }
 
-/// Something past its limit: how many are allowed, and how many there are; of a file's bytes at least one more than allowed, which
-/// is the number then.
+/// Something past its limit: how many are allowed, and how many there are; of a file's bytes and of tokens at
+/// least one more than allowed, which is the number then.
 #[derive(Clone, Copy, Debug, PartialEq, Eq)]
 pub struct LimitFault {
     pub what: LimitWhat,
