@@ -7,4 +7,6 @@ pub mod OneStatement
 pub mod OneTree
 pub mod PlainLaws
 pub mod Programs
+pub mod RoundTripText
+pub mod RoundTripWords
 pub mod Sorts
