@@ -7,6 +7,9 @@ pub mod OneStatement
 pub mod OneTree
 pub mod PlainLaws
 pub mod Programs
+pub mod RoundTrip
 pub mod RoundTripText
+pub mod RoundTripTree
 pub mod RoundTripWords
+pub mod RoundTripWritable
 pub mod Sorts

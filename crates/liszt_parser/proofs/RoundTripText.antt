@@ -1,6 +1,5 @@
 -- The canonical text of a tree that has one is cut into gaps and its words.
-use Rattle.std.proofs.Common.{◌≡◌, ℕ, zero, suc, ◌+◌, nat_le, nat_lt, Bool, true, false, Option, Some, None, List, [], ◌∷◌, ◌++◌, codes, refl, sym, ap, subst, ◌∙◌, append_assoc}
-use Rattle.std.specs.Fmt.{signed_decimal}
+use Rattle.std.proofs.Common.{◌≡◌, ℕ, zero, suc, ◌+◌, nat_le, nat_lt, Bool, true, false, Option, Some, None, List, [], ◌∷◌, ◌++◌, codes, refl, sym, subst, append_assoc}
 use Rattle.std.proofs.lemmas.List.{append-nil}
 use Rattle.liszt_base.specs.declared.elements.Kind.{Kind}
 use Rattle.liszt_base.specs.declared.elements.Kind.TheVariants.{Vertex, Edge, Face, Cell}
@@ -23,7 +22,7 @@ use Rattle.liszt_tree.specs.declared.tree.Sign.TheVariants as sign
 use Rattle.liszt_tree.specs.Canonical.{kind_word, whole_word, set_word, fun_word, how_text, sign_text, rel_text, chain_level, level_of, bracketed, spaced, text_of, links_text, line, closed_line, declared, headed, target_text, else_text, statement_text, body_text, item_text, main_text, canonical}
 use Rattle.liszt_tree.specs.Tree.{Expression, Number, Name, Field, Call, Towards, Neg, Not, Chain, Compare, Links, no_links, link, Statement, Var, Val, Assign, If, While, For, Body, no_statement, statement, MainItem, MainField, MainVar, MainAssign, MainIf, MainWhile, MainFor, Print, Main, no_item, item}
 use Rattle.liszt_parser.specs.Grammar.{open_bracket, close_bracket, open_brace, close_brace, comma, semicolon, colon, arrow, minus, bang, set_to, field_word, var_word, val_word, if_word, else_word, while_word, for_word, print_word, mesh_word, towards_word}
-use Rattle.liszt_parser.proofs.RoundTripWords.{Words, spelt, fun_token, kind_token, whole_token, set_token, sign_token, rel_token, how_token, bracketed_words, words_in, words_of, links_words, closed_words, declared_words, headed_words, target_words, ended_words, else_words, statement_words, body_words, item_words, main_words, HasLink, IsWritable, AreWritable, IsWritableTarget, IsWritableStatement, IsWritableBody, IsWritableItem, IsWritableMain}
+use Rattle.liszt_parser.proofs.RoundTripWords.{Words, spelt, fun_token, kind_token, whole_token, set_token, sign_token, rel_token, how_token, bracketed_words, words_in, words_of, links_words, declared_words, headed_words, target_words, ended_words, else_words, statement_words, body_words, item_words, main_words, IsWritable, AreWritable, IsWritableTarget, IsWritableStatement, IsWritableBody, IsWritableItem, IsWritableMain}
 
 -- THE TEXTS of functions, kinds, sets and operators are these tokens.
 fun_is : (fun : Fun) → IsSpelling (fun_token fun) (fun_word fun)
@@ -109,8 +108,10 @@ blank {text} {words} h =
 
 both : {a b : List ℕ} {f g : Words} → Follows b → Writes a f → Writes b g → Writes (a ++ b) (λ ws. f (g ws))
 both {a} {b} {f} {g} follows ha hb =
-    record { write = λ rest ws stops more.
-    subst (λ l. Spells l (f (g ws))) (sym (append_assoc a b rest)) (ha.write (b ++ rest) (g ws) (follows rest stops) (hb.write rest ws stops more)) }
+    record {
+      write = λ rest ws stops more.
+          subst (λ l. Spells l (f (g ws))) (sym (append_assoc a b rest)) (ha.write (b ++ rest) (g ws) (follows rest stops) (hb.write rest ws stops more));
+    }
 
 -- a text that doesn't begin with `=`, with another behind it
 begins_in : (text rest : List ℕ) → begins_well text ≡ true → begins_well (text ++ rest) ≡ true
@@ -121,20 +122,26 @@ begins_in (b ∷ text) rest e = e
 opened : {text : List ℕ} {words : Words} → begins_well text ≡ true → Writes text words
     → Writes (40 ∷ text) (λ ws. spelt open_bracket (codes "(") ∷ words ws)
 opened {text} {words} begins h =
-    record { write = λ rest ws stops more.
-    spells_bracket (text ++ rest) (words ws) (begins_in text rest begins) (h.write rest ws stops more) }
+    record {
+      write = λ rest ws stops more.
+          spells_bracket (text ++ rest) (words ws) (begins_in text rest begins) (h.write rest ws stops more);
+    }
 
 negative : {text : List ℕ} {words : Words} → begins_well text ≡ true → Writes text words
     → Writes (45 ∷ text) (λ ws. spelt minus (codes "-") ∷ words ws)
 negative {text} {words} begins h =
-    record { write = λ rest ws stops more.
-    spells_minus (text ++ rest) (words ws) (begins_in text rest begins) (h.write rest ws stops more) }
+    record {
+      write = λ rest ws stops more.
+          spells_minus (text ++ rest) (words ws) (begins_in text rest begins) (h.write rest ws stops more);
+    }
 
 denied : {text : List ℕ} {words : Words} → begins_well text ≡ true → Writes text words
     → Writes (33 ∷ text) (λ ws. spelt bang (codes "!") ∷ words ws)
 denied {text} {words} begins h =
-    record { write = λ rest ws stops more.
-    spells_bang (text ++ rest) (words ws) (begins_in text rest begins) (h.write rest ws stops more) }
+    record {
+      write = λ rest ws stops more.
+          spells_bang (text ++ rest) (words ws) (begins_in text rest begins) (h.write rest ws stops more);
+    }
 
 -- `)`, and a text in brackets
 closing : Writes (codes ")") (λ ws. spelt close_bracket (codes ")") ∷ ws)
@@ -254,22 +261,28 @@ record WritesLines (text : List ℕ) (words : Words) : Type 0 where
 
 one_line : {text : List ℕ} {words : Words} (depth : ℕ) → Writes text words → WritesLines (line depth text) words
 one_line {text} {words} zero h =
-    record { write = λ rest ws more.
-    subst (λ l. Spells l (words ws)) (sym (append_assoc text (codes "\n") rest))
-    (h.write (10 ∷ rest) ws refl (spells_blank 10 rest ws refl more)) }
+    record {
+      write = λ rest ws more.
+          subst (λ l. Spells l (words ws)) (sym (append_assoc text (codes "\n") rest))
+          (h.write (10 ∷ rest) ws refl (spells_blank 10 rest ws refl more));
+    }
 one_line {text} {words} (suc depth) h =
     let below = one_line depth h in
-    record { write = λ rest ws more.
-    spells_blank 32 (32 ∷ (line depth text ++ rest)) (words ws) refl
-    (spells_blank 32 (line depth text ++ rest) (words ws) refl (below.write rest ws more)) }
+    record {
+      write = λ rest ws more.
+          spells_blank 32 (32 ∷ (line depth text ++ rest)) (words ws) refl
+          (spells_blank 32 (line depth text ++ rest) (words ws) refl (below.write rest ws more));
+    }
 
 no_lines : WritesLines [] (λ ws. ws)
 no_lines = record { write = λ rest ws more. more }
 
 then : {a b : List ℕ} {f g : Words} → WritesLines a f → WritesLines b g → WritesLines (a ++ b) (λ ws. f (g ws))
 then {a} {b} {f} {g} ha hb =
-    record { write = λ rest ws more.
-    subst (λ l. Spells l (f (g ws))) (sym (append_assoc a b rest)) (ha.write (b ++ rest) (g ws) (hb.write rest ws more)) }
+    record {
+      write = λ rest ws more.
+          subst (λ l. Spells l (f (g ws))) (sym (append_assoc a b rest)) (ha.write (b ++ rest) (g ws) (hb.write rest ws more));
+    }
 
 -- a line with its `;`
 closed : {text : List ℕ} {words : Words} (depth : ℕ) → Writes text words
