@@ -8,6 +8,7 @@ pub mod OneTree
 pub mod PlainLaws
 pub mod Programs
 pub mod RoundTrip
+pub mod RoundTripFronts
 pub mod RoundTripText
 pub mod RoundTripTree
 pub mod RoundTripWords
