@@ -9,6 +9,7 @@ pub mod PlainLaws
 pub mod Programs
 pub mod RoundTrip
 pub mod RoundTripFronts
+pub mod RoundTripKinds
 pub mod RoundTripSegments
 pub mod RoundTripText
 pub mod RoundTripTree

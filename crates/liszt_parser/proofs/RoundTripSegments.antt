@@ -6,7 +6,7 @@ use Rattle.std.proofs.lemmas.List.{append-nil}
 use Rattle.liszt_lexer.specs.declared.token.TokenKind.{TokenKind}
 use Rattle.liszt_parser.specs.Depth.{is_open_bracket, is_close_bracket, opens, closes, is_minus, is_bang, closes_bracket, ends_alone, holds_operand, is_operand_end, is_prefix, pending, depth}
 use Rattle.liszt_parser.specs.Grammar.{Lexeme, open_bracket, close_bracket, open_brace, close_brace}
-use Rattle.liszt_parser.proofs.RoundTripFronts.{of_kind, IsPlain, IsQuiet, IsOperator, counted, not_counted, one_counted, plain_skips, opening_step, closing_step, closing_last, passes, quiet_is_no_prefix, unless, unless_none, unless_less, StaysInside, begins_open, Front, depth_of, ShallowIn, shallow_here, joined, parted, behind, behind_operator}
+use Rattle.liszt_parser.proofs.RoundTripFronts.{of_kind, IsPlain, IsQuiet, IsOperator, counted, not_counted, one_counted, plain_skips, opening_step, closing_step, closing_last, passes, quiet_is_no_prefix, plain_behind_operand, unless, unless_none, unless_less, StaysInside, begins_open, Front, depth_of, ShallowIn, shallow_here, joined, parted, behind, behind_operator}
 
 -- WHERE A PART MAY STAND: behind which token, how many prefix operators wait for it, and whether no bracket may come
 abbrev pub Entry : Type 1
@@ -234,6 +234,7 @@ operator {m} {ts} {left} t is s =
 -- A NUMBER AND A NAME
 pub record IsAtom (kind : TokenKind) : Type 0 where
   pub quiet : IsQuiet kind
+  pub is_end : is_operand_end (Some (of_kind kind)) ≡ true
   pub holds : (ts : List Lexeme) → begins_open ts ≡ false → holds_operand (of_kind kind ∷ ts) ≡ true
 
 atom_part : {left : List Lexeme} (t : Lexeme) → IsAtom t.kind → Passage AsAtom (t ∷ left) left
@@ -541,3 +542,88 @@ braces {m} {ts} {left} o c is closing s =
   where
     whole : (front : List Lexeme) → front ++ o ∷ [] ++ s.part.tokens ++ c ∷ [] ≡ front ++ (o ∷ (s.part.tokens ++ c ∷ []))
     whole front = append_assoc (front ++ o ∷ []) s.part.tokens (c ∷ []) ∙ append_assoc front (o ∷ []) (s.part.tokens ++ c ∷ [])
+
+-- OPERANDS end as operands do, and so do the links of a chain behind one.
+pub record Operand (enters : Entry) (deep : ℕ) (ts left : List Lexeme) : Type 0 where
+  pub segment : Segment enters deep ts left
+  pub ended : (before : Option Lexeme) → is_operand_end (segment.part.last before) ≡ true
+
+pub record LinkList (deep : ℕ) (ts left : List Lexeme) : Type 0 where
+  pub segment : Segment AsLink deep ts left
+  pub ended : (before : Option Lexeme) → is_operand_end before ≡ true → is_operand_end (segment.part.last before) ≡ true
+
+-- an operator between operands
+pub record IsInfix (kind : TokenKind) : Type 0 where
+  pub plain : IsPlain kind
+  pub no_end : is_operand_end (Some (of_kind kind)) ≡ false
+
+pub an_atom : {left : List Lexeme} (t : Lexeme) → IsAtom t.kind → Operand AsAtom 0 (t ∷ left) left
+unfolding atom atom_part
+an_atom t is = record { segment = atom t is; ended = λ before. is.is_end }
+
+pub an_operator : {m : ℕ} {ts left : List Lexeme} (t : Lexeme) → IsOperator t.kind → Operand AsOperand m ts left
+    → Operand AsOperand (suc m) (t ∷ ts) left
+unfolding operator
+an_operator t is s = record { segment = operator t is s.segment; ended = λ before. s.ended (Some t) }
+
+pub in_brackets : {a : Entry} {m : ℕ} {ts left : List Lexeme} (head : List Lexeme) (o c : Lexeme) → IsHead head → IsOpening o.kind
+    → IsClosing c.kind → a (Some o) 0 false → Segment a m ts (c ∷ left) → Operand AsAtom (suc m) (head ++ o ∷ ts) left
+unfolding brackets bracketed
+in_brackets head o c h is closing there s =
+    record { segment = brackets head o c h is closing there s; ended = λ before. closing.is_end }
+
+pub weaker : {a b : Entry} {m : ℕ} {ts left : List Lexeme}
+    → ((before : Option Lexeme) (p : ℕ) (stop : Bool) → b before p stop → a before p stop) → Operand a m ts left → Operand b m ts left
+unfolding weaken
+weaker h s = record { segment = weaken h s.segment; ended = s.ended }
+
+pub no_link : {left : List Lexeme} → LinkList 0 left left
+unfolding nothing
+no_link = record { segment = nothing (λ before p stop here. here.0); ended = λ before e. e }
+
+pub a_link : {m n : ℕ} {ts mid left : List Lexeme} (t : Lexeme) → IsInfix t.kind → Operand AsLoose m ts mid → LinkList n mid left
+    → LinkList (max m n) (t ∷ ts) left
+unfolding then token
+a_link t is s more =
+    record {
+      segment =
+        token t is.plain (λ before p stop here. (here.0, plain_behind_operand before t is.plain here.1)) (refl, is.no_end, refl)
+          (then (λ before p stop here. here.2) s.segment (λ before p stop here. (refl, s.ended before)) more.segment);
+      ended = λ before e. more.ended (s.segment.part.last (Some t)) (s.ended (Some t));
+    }
+
+pub a_chain : {m n : ℕ} {ts mid left : List Lexeme} → Operand AsLoose m ts mid → LinkList n mid left → Operand AsLoose (max m n) ts left
+unfolding then
+a_chain s more =
+    record {
+      segment = then (λ before p stop here. here.2) s.segment (λ before p stop here. (refl, s.ended before)) more.segment;
+      ended = λ before. more.ended (s.segment.part.last before) (s.ended before);
+    }
+
+-- LINES: parts that stand anywhere where no operator waits
+pub then_line : {m n : ℕ} {ts mid left : List Lexeme} → Segment Anywhere m ts mid → Segment Anywhere n mid left
+    → Segment Anywhere (max m n) ts left
+then_line first second = then (λ before p stop here. here) first (λ before p stop here. refl) second
+
+pub then_part : {m n : ℕ} {ts mid left : List Lexeme} → Segment AsPart m ts mid → Segment Anywhere n mid left
+    → Segment AsPart (max m n) ts left
+then_part first second = then (λ before p stop here. here.1) first (λ before p stop here. refl) second
+
+pub then_end : {m n : ℕ} {ts mid left : List Lexeme} → Operand AsLoose m ts mid → Segment Anywhere n mid left
+    → Segment AsLoose (max m n) ts left
+then_end first second = then (λ before p stop here. here.2) first.segment (λ before p stop here. refl) second
+
+-- a token before a part, before an expression and before a line
+pub before_part : {m : ℕ} {ts left : List Lexeme} (t : Lexeme) → IsQuiet t.kind → Segment AsPart m ts left → Segment Anywhere m (t ∷ ts) left
+before_part t is s = token t is.plain (λ before p stop here. (here, quiet_is_no_prefix before t is)) (refl, refl) s
+
+pub before_loose : {m : ℕ} {ts left : List Lexeme} (t : Lexeme) → IsQuiet t.kind → is_operand_end (Some t) ≡ false
+    → Segment AsLoose m ts left → Segment Anywhere m (t ∷ ts) left
+before_loose t is no_end s =
+    token t is.plain (λ before p stop here. (here, quiet_is_no_prefix before t is)) (refl, no_end, refl) s
+
+pub before_line : {m : ℕ} {ts left : List Lexeme} (t : Lexeme) → IsQuiet t.kind → Segment Anywhere m ts left → Segment Anywhere m (t ∷ ts) left
+before_line t is s = token t is.plain (λ before p stop here. (here, quiet_is_no_prefix before t is)) refl s
+
+pub as_part : {m : ℕ} {ts left : List Lexeme} → Operand AsAtom m ts left → Segment AsPart m ts left
+as_part s = weaken (λ before p stop here. here.0) s.segment
