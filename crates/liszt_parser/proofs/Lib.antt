@@ -8,6 +8,7 @@ pub mod OneTree
 pub mod PlainLaws
 pub mod Programs
 pub mod RoundTrip
+pub mod RoundTripDeep
 pub mod RoundTripFronts
 pub mod RoundTripKinds
 pub mod RoundTripSegments

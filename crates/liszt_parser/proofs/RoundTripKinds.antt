@@ -5,6 +5,9 @@ use Rattle.std.proofs.lemmas.Bool.{and_parts, eqb-true}
 use Rattle.liszt_lexer.specs.declared.token.TokenKind.{TokenKind}
 use Rattle.liszt_lexer.specs.declared.token.TokenKind.TheVariants.{Name as NameToken, Number as NumberToken, Word, Symbol, MinSet, MaxSet}
 use Rattle.liszt_base.specs.declared.elements.Op.TheVariants.{Add, Mul, And as AndBits, Or as OrBits, Xor, Min, Max}
+use Rattle.liszt_base.specs.declared.elements.Kind.{Kind}
+use Rattle.liszt_base.specs.declared.elements.SetName.{SetName}
+use Rattle.liszt_tree.specs.declared.tree.Fun.{Fun}
 use Rattle.liszt_tree.specs.declared.tree.How.{How}
 use Rattle.liszt_tree.specs.declared.tree.How.TheVariants.{Set, Fold, Less}
 use Rattle.liszt_tree.specs.declared.tree.Level.{Level}
@@ -14,7 +17,7 @@ use Rattle.liszt_tree.specs.declared.tree.Rel.TheVariants.{Same, Other, Below, A
 use Rattle.liszt_tree.specs.declared.tree.Sign.{Sign}
 use Rattle.liszt_tree.specs.declared.tree.Sign.TheVariants as sign
 use Rattle.liszt_parser.specs.Depth.{is_open_bracket, is_close_bracket, opens, closes, is_minus, is_bang, closes_bracket, holds_operand, is_operand_end}
-use Rattle.liszt_parser.specs.Grammar.{Lexeme, look_up, at_word, at_symbol, sign_of, rel_of, how_of, open_bracket, close_bracket, open_brace, close_brace, minus, bang}
+use Rattle.liszt_parser.specs.Grammar.{Lexeme, look_up, fun_of, kind_of, whole_of, set_of, at_symbol, sign_of, rel_of, how_of, open_bracket, close_bracket, open_brace, close_brace, minus, bang}
 use Rattle.liszt_parser.proofs.RoundTripFronts.{of_kind, IsPlain, IsQuiet, IsOperator, begins_open}
 use Rattle.liszt_parser.proofs.RoundTripSegments.{IsAtom, IsOpening, IsClosing, IsCaller, IsInfix, IsOpeningBrace, IsClosingBrace}
 
@@ -124,10 +127,22 @@ word_caller place = record { quiet = quiet_of (Word place) refl refl; calls = λ
 pub word_lead : (place : ℕ) → IsLead (Word place)
 word_lead place = lead_of (Word place) refl refl refl
 
--- BY TABLES. A word that stands for something is a word.
-pub table_word : {A : Type 0} (table : List (ℕ × A)) (kind : TokenKind) (x : A) → at_word table kind ≡ Some x → IsCaller kind
-table_word table (Word place) x e = word_caller place
-table_word table _ x e = cc
+-- BY TABLES. What stands for a function, a kind or a set is a word.
+pub fun_caller : (kind : TokenKind) (fun : Fun) → fun_of kind ≡ Some fun → IsCaller kind
+fun_caller (Word place) fun e = word_caller place
+fun_caller _ fun e = cc
+
+pub kind_lead : (kind : TokenKind) (of : Kind) → kind_of kind ≡ Some of → IsLead kind
+kind_lead (Word place) of e = word_lead place
+kind_lead _ of e = cc
+
+pub whole_caller : (kind : TokenKind) (of : Kind) → whole_of kind ≡ Some of → IsCaller kind
+whole_caller (Word place) of e = word_caller place
+whole_caller _ of e = cc
+
+pub set_caller : (kind : TokenKind) (set : SetName) → set_of kind ≡ Some set → IsCaller kind
+set_caller (Word place) set e = word_caller place
+set_caller _ set e = cc
 
 -- What holds of all symbols of a table holds of one that stands for something there.
 found : {A : Type 0} (P : TokenKind → Type 0) (table : List (ℕ × A)) (place : ℕ) (x : A)
