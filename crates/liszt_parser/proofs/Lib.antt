@@ -12,6 +12,7 @@ pub mod RoundTripDeep
 pub mod RoundTripFronts
 pub mod RoundTripKinds
 pub mod RoundTripSegments
+pub mod RoundTripShallow
 pub mod RoundTripText
 pub mod RoundTripTree
 pub mod RoundTripWords

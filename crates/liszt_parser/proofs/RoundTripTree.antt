@@ -31,7 +31,7 @@ use Rattle.liszt_parser.proofs.RoundTripWords.{spelt, fun_token, kind_token, who
 abbrev pub placed_word : Place → Spelling → Lexeme
 placed_word place w = record { kind = w.kind; place = place; bytes = w.bytes }
 
-abbrev later : (ℕ → Place) → ℕ → Place
+abbrev pub later : (ℕ → Place) → ℕ → Place
 later at n = at (suc n)
 
 abbrev pub placed : (ℕ → Place) → List Spelling → List Lexeme
@@ -39,7 +39,7 @@ placed at [] = []
 placed at (w ∷ ws) = placed_word (at 0) w ∷ placed (later at) ws
 
 -- THE TOKENS of functions, kinds, sets and operators stand for them.
-fun_stands : (fun : Fun) → fun_of (fun_token fun) ≡ Some fun
+pub fun_stands : (fun : Fun) → fun_of (fun_token fun) ≡ Some fun
 fun_stands Head = refl
 fun_stands Tail = refl
 fun_stands Inside = refl
@@ -48,26 +48,26 @@ fun_stands Flip = refl
 fun_stands Valid = refl
 fun_stands Id = refl
 
-kind_stands : (kind : Kind) → kind_of (kind_token kind) ≡ Some kind
+pub kind_stands : (kind : Kind) → kind_of (kind_token kind) ≡ Some kind
 kind_stands Vertex = refl
 kind_stands Edge = refl
 kind_stands Face = refl
 kind_stands Cell = refl
 
-whole_stands : (kind : Kind) → whole_of (whole_token kind) ≡ Some kind
+pub whole_stands : (kind : Kind) → whole_of (whole_token kind) ≡ Some kind
 whole_stands Vertex = refl
 whole_stands Edge = refl
 whole_stands Face = refl
 whole_stands Cell = refl
 
-set_stands : (set : SetName) → set_of (set_token set) ≡ Some set
+pub set_stands : (set : SetName) → set_of (set_token set) ≡ Some set
 set_stands Vertices = refl
 set_stands Edges = refl
 set_stands Faces = refl
 set_stands Cells = refl
 set_stands EdgesCcw = refl
 
-rel_stands : (rel : Rel) → rel_of (rel_token rel) ≡ Some rel
+pub rel_stands : (rel : Rel) → rel_of (rel_token rel) ≡ Some rel
 rel_stands Same = refl
 rel_stands Other = refl
 rel_stands Below = refl
@@ -75,7 +75,7 @@ rel_stands AtMost = refl
 rel_stands Above = refl
 rel_stands AtLeast = refl
 
-how_stands : (how : How) → how_of (how_token how) ≡ Some how
+pub how_stands : (how : How) → how_of (how_token how) ≡ Some how
 how_stands Set = refl
 how_stands Less = refl
 how_stands (Fold Add) = refl

@@ -34,12 +34,15 @@ pub fn one_fault()
     ensures none { (ts : List Lexeme) (ending : Place) → IsParseFault ts ending None ↔ ((tree : Main) × Derives ts tree × IsShallow ts (length ts)) }
 {}
 
-/// The canonical text of a tree that the tokens of a text derive reads back: its tokens derive that tree, up to places, and it has
-/// tokens unless they are too many.
+/// The canonical text of a tree that the tokens of a text derive reads back: its tokens derive that tree, up to places, it has
+/// tokens unless they are too many, and none of them is deeper than 64 where none of the first text was.
 pub fn canonical_reads_back()
     ensures derives { (text : List ℕ) (tokens : List Token) (tree : Main) → tokens_of text ≡ Ok tokens → Derives (lexemes text tokens) tree
         → (tokens' : List Token) → tokens_of (canonical tree) ≡ Ok tokens'
         → (tree' : Main) × Derives (lexemes (canonical tree) tokens') tree' × Same tree' tree }
     ensures fails_big_only { (text : List ℕ) (tokens : List Token) (tree : Main) → tokens_of text ≡ Ok tokens → Derives (lexemes text tokens) tree
         → (fault : ProgramFault) → tokens_of (canonical tree) ≡ Err fault → fault.what ≡ Big }
+    ensures no_deeper { (text : List ℕ) (tokens : List Token) (tree : Main) → tokens_of text ≡ Ok tokens → Derives (lexemes text tokens) tree
+        → IsShallow (lexemes text tokens) (length (lexemes text tokens)) → (tokens' : List Token) → tokens_of (canonical tree) ≡ Ok tokens'
+        → IsShallow (lexemes (canonical tree) tokens') (length (lexemes (canonical tree) tokens')) }
 {}
