@@ -11,7 +11,7 @@ use Rattle.std.specs.Str.{all_ascii_digits}
 use Rattle.std.specs.Str.Parse.{digits_value, IsNumeral}
 use Rattle.std.proofs.Math.Bool.{and-false}
 use Rattle.std.proofs.Math.Seq.{take-append_seam, take-append-add}
-use Rattle.std.proofs.lemmas.Bool.{and_parts, or_left, or_right, eqb-true, ltb-true, lt-ltb}
+use Rattle.std.proofs.lemmas.Bool.{and_parts, or_left, or_right, eqb-true, ltb-true, lt-ltb, not-true}
 use Rattle.std.proofs.lemmas.Bool.Decides.{nat_tests}
 use Rattle.std.proofs.lemmas.Fmt.{digits_decimal, decimal_is_IsNumeral}
 use Rattle.std.proofs.lemmas.List.{take_all}
@@ -168,10 +168,6 @@ bracket_alone b more e =
     let number : number_token (40 ∷ b ∷ more) ≡ None = rw (and-false (nat_lt 0 (length (40 ∷ b ∷ more)))) refl in
     no_kind (40 ∷ b ∷ more) refl refl refl refl number refl
 
-turned : (b : Bool) → not b ≡ true → b ≡ false
-turned true e = cc
-turned false e = refl
-
 -- by a byte that is alone before any but `=`
 alone_before : (a : ℕ) (rest : List ℕ) (kind : TokenKind) → piece (a ∷ []) ≡ Some (Token kind)
     → ((b : ℕ) (more : List ℕ) → (b == 61) ≡ false → piece (a ∷ b ∷ more) ≡ None)
@@ -180,7 +176,7 @@ alone_before a [] kind is alone begins = absurd cc
 alone_before a (b ∷ rest) kind is alone begins = front_of (a ∷ []) (b ∷ rest) (Token kind) (omega arith) is longer where
   longer : (n : ℕ) → 1 ≤ n → n ≤ length (b ∷ rest) → piece (a ∷ take n (b ∷ rest)) ≡ None
   longer zero some le = absurd (omega arith)
-  longer (suc n) some le = alone b (take n rest) (turned (b == 61) begins)
+  longer (suc n) some le = alone b (take n rest) (not-true (b == 61) begins)
 
 pub minus_front : (rest : List ℕ) → begins_well rest ≡ true → IsFront (45 ∷ rest) 1 (Token (Symbol 17))
 minus_front rest begins = alone_before 45 rest (Symbol 17) refl minus_alone begins

@@ -13,6 +13,7 @@ pub mod RoundTripFronts
 pub mod RoundTripKinds
 pub mod RoundTripSegments
 pub mod RoundTripShallow
+pub mod RoundTripTables
 pub mod RoundTripText
 pub mod RoundTripTree
 pub mod RoundTripWords

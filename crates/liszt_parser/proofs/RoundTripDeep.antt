@@ -1,20 +1,20 @@
 -- How deep a tree's canonical text goes, and that tokens which derive the tree go as deep.
-use Rattle.std.proofs.Common.{◌≡◌, ℕ, suc, ◌+◌, ◌≤◌, max, nat_le, nat_lt, Bool, true, false, Option, Some, None, List, [], ◌∷◌, ◌++◌}
+use Rattle.std.proofs.Common.{◌≡◌, ℕ, suc, ◌≤◌, max, nat_le, nat_lt, Bool, true, false, Option, Some, None, List, [], ◌∷◌, ◌++◌}
 use Rattle.std.proofs.Common.{refl, sym, ap, subst, ◌∙◌, arith}
 use Rattle.std.proofs.lemmas.Bool.Decides.{nat_tests}
 use Rattle.std.proofs.lemmas.List.{append-nil}
 use Rattle.liszt_lexer.specs.declared.token.TokenKind.{TokenKind}
-use Rattle.liszt_lexer.specs.declared.token.TokenKind.TheVariants.{Name as NameToken, Number as NumberToken, Word, Symbol}
+use Rattle.liszt_lexer.specs.declared.token.TokenKind.TheVariants.{Name as NameToken, Word}
 use Rattle.liszt_tree.specs.declared.tree.Level.{Level}
 use Rattle.liszt_tree.specs.declared.tree.Level.TheVariants.{Or, And, Sum, Product}
 use Rattle.liszt_tree.specs.Canonical.{chain_level, level_of}
 use Rattle.liszt_tree.specs.Tree.{Expression, Number, Name, Field, Call, Towards, Neg, Not, Chain, Compare, Links, no_links, link, Statement, Var, Val, Assign, If, While, For, Body, no_statement, statement, MainItem, MainField, MainVar, MainAssign, MainIf, MainWhile, MainFor, Print, Main, no_item, item}
-use Rattle.liszt_parser.specs.Depth.{is_operand_end}
-use Rattle.liszt_parser.specs.Grammar.{Lexeme, fun_of, kind_of, whole_of, set_of, Rank, chain, comparison, prefixed, alone, operand, any, IsExpression, one_operand, chained, one_sum, compared, no_prefix, negated, denied, number, name, field, call, towards, in_brackets, IsLinks, no_more_links, linked, IsBracketed, bracketed, Closes, by_semicolon, by_brace, by_end, IsDeclared, is_declared, IsTarget, no_target, target, IsStatement, var, val, assign, if, while, for, IsBody, no_statements, statements, IsBlock, block, IsElse, no_else, else, IsItem, main_field, main_var, main_assign, main_if, main_while, main_for, print, IsMain, no_items, items, IsMainBlock, main_block, IsMainElse, no_main_else, main_else}
-use Rattle.liszt_parser.specs.Grammar.{open_bracket, close_bracket, open_brace, close_brace, comma, semicolon, colon, arrow, minus, bang, set_to, field_word, var_word, val_word, if_word, else_word, while_word, for_word, print_word, mesh_word, towards_word}
-use Rattle.liszt_parser.proofs.RoundTripFronts.{IsPlain, IsQuiet, IsOperator, ShallowIn, no_front}
+use Rattle.liszt_parser.specs.Grammar.{Lexeme, Rank, chain, comparison, prefixed, alone, operand, any, IsExpression, one_operand, chained, one_sum, compared, no_prefix, negated, denied, number, name, field, call, towards, in_brackets, IsLinks, no_more_links, linked, IsBracketed, bracketed, Closes, by_semicolon, by_brace, by_end, IsDeclared, is_declared, IsTarget, no_target, target, IsStatement, var, val, assign, if, while, for, IsBody, no_statements, statements, IsBlock, block, IsElse, no_else, else, IsItem, main_field, main_var, main_assign, main_if, main_while, main_for, print, IsMain, no_items, items, IsMainBlock, main_block, IsMainElse, no_main_else, main_else}
+use Rattle.liszt_parser.specs.Grammar.{open_bracket, close_bracket, open_brace, close_brace, comma, semicolon, colon, arrow, set_to, field_word, if_word, else_word, while_word, for_word, print_word, mesh_word}
+use Rattle.liszt_parser.proofs.RoundTripFronts.{IsQuiet, IsOperator, ShallowIn, no_front}
 use Rattle.liszt_parser.proofs.RoundTripKinds.{IsLead, opening, closing, opening_brace, closing_brace, minus_operator, bang_operator, quiet_name, name_atom, number_atom, name_caller, word_caller, word_lead, fun_caller, kind_lead, whole_caller, set_caller, sign_infix, rel_infix, how_lead, quiet_of, infix_of, lead_of}
-use Rattle.liszt_parser.proofs.RoundTripSegments.{Entry, Anywhere, AsPart, AsLoose, AsOperand, AsAtom, Segment, Operand, LinkList, IsAtom, IsInfix, IsOpening, IsClosing, IsCaller, IsOpeningBrace, IsClosingBrace, IsHead, no_head, one_head, nothing, an_atom, an_operator, in_brackets as bracketed_part, weaken, weaker, no_link, a_link, a_chain, then_line, then_part, then_end, before_part, before_loose, before_line, as_part, braces}
+use Rattle.liszt_parser.proofs.Sorts.{level_strength, rank_strength}
+use Rattle.liszt_parser.proofs.RoundTripSegments.{Entry, Anywhere, AsLoose, AsOperand, AsAtom, Segment, Operand, LinkList, IsAtom, IsInfix, IsOpening, IsClosing, IsCaller, IsOpeningBrace, IsClosingBrace, IsHead, no_head, one_head, nothing, an_atom, an_operator, in_brackets as bracketed_part, weaker, no_link, a_link, a_chain, then_line, then_part, then_end, before_part, before_loose, before_line, as_part, braces}
 
 -- HOW DEEP the canonical text of a tree goes: brackets, braces and prefix operators
 abbrev pub in_brackets_deep : Bool → ℕ → ℕ
@@ -76,22 +76,16 @@ abbrev mutual
   main_deep no_item = 0
   main_deep (item i more) = max (item_deep i) (main_deep more)
 
--- WHERE a rank stands, and how tightly it binds
+-- WHERE a rank stands
 abbrev entry_of : Rank → Entry
 entry_of (chain level) = AsLoose
 entry_of comparison = AsLoose
 entry_of prefixed = AsOperand
 entry_of alone = AsAtom
 
-abbrev strength : Rank → ℕ
-strength (chain level) = chain_level level
-strength comparison = 3
-strength prefixed = 6
-strength alone = 7
-
 -- how deep an expression goes where it is read at a rank
 abbrev deep_at : Rank → Expression → ℕ
-deep_at rank e = in_brackets_deep (nat_lt (level_of e) (strength rank)) (expression_deep e)
+deep_at rank e = in_brackets_deep (nat_lt (level_of e) (rank_strength rank)) (expression_deep e)
 
 stronger : (l s s' : ℕ) → s ≤ s' → nat_lt l s ≡ true → nat_lt l s' ≡ true
 stronger l s s' le e = grind (arith, nat_tests)
@@ -102,10 +96,10 @@ fewer true false n h = let e : false ≡ true = h refl in cc
 fewer false true n h = omega arith
 fewer false false n h = omega arith
 
-less_at : (rank rank' : Rank) (e : Expression) → strength rank ≤ strength rank' → deep_at rank e ≤ deep_at rank' e
+less_at : (rank rank' : Rank) (e : Expression) → rank_strength rank ≤ rank_strength rank' → deep_at rank e ≤ deep_at rank' e
 less_at rank rank' e le =
-    fewer (nat_lt (level_of e) (strength rank)) (nat_lt (level_of e) (strength rank')) (expression_deep e)
-    (stronger (level_of e) (strength rank) (strength rank') le)
+    fewer (nat_lt (level_of e) (rank_strength rank)) (nat_lt (level_of e) (rank_strength rank')) (expression_deep e)
+    (stronger (level_of e) (rank_strength rank) (rank_strength rank') le)
 
 same_test : (l n : ℕ) → nat_lt l (suc n) ≡ nat_le l n
 same_test l n = grind (arith, nat_tests)
@@ -113,11 +107,17 @@ same_test l n = grind (arith, nat_tests)
 not_below : (n : ℕ) → nat_lt n n ≡ false
 not_below n = grind (arith, nat_tests)
 
-operand_strength : (level : Level) → strength (operand level) ≡ suc (chain_level level)
+operand_strength : (level : Level) → rank_strength (operand level) ≡ suc (chain_level level)
 operand_strength Or = refl
 operand_strength And = refl
 operand_strength Sum = refl
 operand_strength Product = refl
+
+same_strength : (level : Level) → level_strength level ≡ chain_level level
+same_strength Or = refl
+same_strength And = refl
+same_strength Sum = refl
+same_strength Product = refl
 
 operand_deep : (level : Level) (e : Expression)
     → in_brackets_deep (nat_le (level_of e) (chain_level level)) (expression_deep e) ≡ deep_at (operand level) e
@@ -129,7 +129,9 @@ sum_deep : (e : Expression) → in_brackets_deep (nat_le (level_of e) 3) (expres
 sum_deep e = ap (λ b. in_brackets_deep b (expression_deep e)) (sym (same_test (level_of e) 3))
 
 chain_deep : (level : Level) (first : Expression) (links : Links) → deep_at (chain level) (Chain level first links) ≡ expression_deep (Chain level first links)
-chain_deep level first links = ap (λ b. in_brackets_deep b (expression_deep (Chain level first links))) (not_below (chain_level level))
+chain_deep level first links =
+    ap (λ n. in_brackets_deep (nat_lt (chain_level level) n) (expression_deep (Chain level first links))) (same_strength level)
+    ∙ ap (λ b. in_brackets_deep b (expression_deep (Chain level first links))) (not_below (chain_level level))
 
 any_deep : (e : Expression) → expression_deep e ≤ deep_at any e
 any_deep e = go (nat_lt (level_of e) 1) where
@@ -138,7 +140,7 @@ any_deep e = go (nat_lt (level_of e) 1) where
   go false = omega arith
 
 one_bracket : (rank : Rank) (e : Expression) → deep_at rank e ≤ suc (expression_deep e)
-one_bracket rank e = go (nat_lt (level_of e) (strength rank)) where
+one_bracket rank e = go (nat_lt (level_of e) (rank_strength rank)) where
   go : (b : Bool) → in_brackets_deep b (expression_deep e) ≤ suc (expression_deep e)
   go true = omega arith
   go false = omega arith
@@ -172,7 +174,7 @@ loose_operand Sum m ts left r = r
 loose_operand Product m ts left r = loose r
 
 operand_less : (level : Level) (e : Expression) → deep_at (chain level) e ≤ deep_at (operand level) e
-operand_less level e = less_at (chain level) (operand level) e (omega (arith, operand_strength level))
+operand_less level e = less_at (chain level) (operand level) e (omega (arith, operand_strength level, same_strength level))
 
 mutual
   expression : {rank : Rank} {ts left : List Lexeme} {e : Expression} → IsExpression rank ts e left
@@ -186,7 +188,7 @@ mutual
         deep = max a.deep b.deep;
         part = a_chain a.part b.part;
         more =
-          omega (arith, a.more, b.more, operand_deep level first, chain_deep level first (link s place e more));
+            omega (arith, a.more, b.more, operand_deep level first, chain_deep level first (link s place e more));
       }
   expression (one_sum {e} d) = lower (deep_at comparison e) (less_at comparison (chain Sum) e (omega arith)) (expression d)
   expression (compared {a = left} {b = right} {rel} t d is d') =
@@ -228,7 +230,7 @@ mutual
       record {
         deep = suc (max a.deep (max b.deep 0));
         part =
-          bracketed_part (t ∷ []) o c (one_head t (subst IsCaller (sym is) (word_caller 20))) (subst IsOpening (sym opened) opening)
+            bracketed_part (t ∷ []) o c (one_head t (subst IsCaller (sym is) (word_caller 20))) (subst IsOpening (sym opened) opening)
             (subst IsClosing (sym close) closing) (refl, (subst IsOpening (sym opened) opening).no_end, refl) inner.segment;
         more = omega (arith, a.more, b.more, any_deep e, any_deep target_tree);
       }
@@ -254,7 +256,7 @@ mutual
       record {
         deep = suc a.deep;
         part =
-          bracketed_part head o c h (subst IsOpening (sym opened) opening) (subst IsClosing (sym close) closing)
+            bracketed_part head o c h (subst IsOpening (sym opened) opening) (subst IsClosing (sym close) closing)
             (refl, (subst IsOpening (sym opened) opening).no_end, refl) a.part.segment;
         more = omega (arith, a.more, any_deep e);
       }
@@ -383,7 +385,7 @@ whole k p m q of opened is close =
     record {
       deep = 1;
       part =
-        bracketed_part (k ∷ []) p q (one_head k of) (subst IsOpening (sym opened) opening) (subst IsClosing (sym close) closing) refl
+          bracketed_part (k ∷ []) p q (one_head k of) (subst IsOpening (sym opened) opening) (subst IsClosing (sym close) closing) refl
           (before_line m (quiets m mesh_word is (word_lead 8).quiet) (nothing (λ before p stop here. here)));
       more = omega arith;
     }

@@ -1,5 +1,5 @@
 -- How deep the tokens of a text are behind a front of it, and what tokens do to that.
-use Rattle.std.proofs.Common.{◌≡◌, ℕ, zero, suc, ◌+◌, ◌-◌, ◌≤◌, ◌==◌, ◌&&◌, ◌||◌, not, cond, Bool, true, false, Option, Some, None, List, []}
+use Rattle.std.proofs.Common.{◌≡◌, ℕ, suc, ◌+◌, ◌-◌, ◌≤◌, ◌==◌, ◌&&◌, not, cond, Bool, true, false, Option, Some, None, List, []}
 use Rattle.std.proofs.Common.{◌∷◌, ◌++◌, refl, sym, ap, subst, ◌∙◌, append_assoc, arith}
 use Rattle.std.specs.List.{count_by}
 use Rattle.std.proofs.Math.Bool.{and-false}
@@ -7,10 +7,9 @@ use Rattle.std.proofs.lemmas.Bool.{ne_eqb}
 use Rattle.std.proofs.lemmas.List.{append-nil}
 use Rattle.std.proofs.lemmas.List.Sums.{sum_by-append}
 use Rattle.liszt_lexer.specs.declared.token.TokenKind.{TokenKind}
-use Rattle.liszt_lexer.specs.declared.token.TokenKind.TheVariants.{Symbol}
 use Rattle.liszt_tree.specs.Tree.{nowhere}
-use Rattle.liszt_parser.specs.Depth.{is_open_bracket, is_close_bracket, opens, closes, is_minus, is_bang, closes_bracket, ends_alone, holds_operand, is_operand_end, is_prefix, pending, depth}
-use Rattle.liszt_parser.specs.Grammar.{Lexeme, open_bracket, close_bracket, open_brace, close_brace}
+use Rattle.liszt_parser.specs.Depth.{is_open_bracket, is_close_bracket, opens, closes, is_minus, is_bang, closes_bracket, holds_operand, is_operand_end, is_prefix, pending, depth}
+use Rattle.liszt_parser.specs.Grammar.{Lexeme}
 
 -- KINDS OF TOKENS. What depth sees of a token is its kind.
 abbrev pub of_kind : TokenKind → Lexeme
@@ -157,14 +156,14 @@ pub behind : {front : List Lexeme} {before : Option Lexeme} {k q : ℕ} {stop : 
 behind {front} {before} {k} {q} {stop} t h plain no_prefix =
     record {
       opened =
-        omega (
-          arith,
-          h.opened,
-          counted opens front (t ∷ []),
-          counted closes front (t ∷ []),
-          not_counted opens t [] plain.no_opens,
-          not_counted closes t [] plain.no_closes,
-        );
+          omega (
+            arith,
+            h.opened,
+            counted opens front (t ∷ []),
+            counted closes front (t ∷ []),
+            not_counted opens t [] plain.no_opens,
+            not_counted closes t [] plain.no_closes,
+          );
       pends = λ ts inside free. step ts inside;
     }
   where
@@ -183,14 +182,14 @@ pub behind_operator : {front : List Lexeme} {before : Option Lexeme} {k q p : �
 behind_operator {front} {before} {k} {q} {p} t h is fresh =
     record {
       opened =
-        omega (
-          arith,
-          h.opened,
-          counted opens front (t ∷ []),
-          counted closes front (t ∷ []),
-          not_counted opens t [] is.no_opens,
-          not_counted closes t [] is.no_closes,
-        );
+          omega (
+            arith,
+            h.opened,
+            counted opens front (t ∷ []),
+            counted closes front (t ∷ []),
+            not_counted opens t [] is.no_opens,
+            not_counted closes t [] is.no_closes,
+          );
       pends = λ ts inside free. step ts inside;
     }
   where

@@ -1,10 +1,9 @@
 -- What depth sees of the tokens of the grammar.
-use Rattle.std.proofs.Common.{◌≡◌, ℕ, ◌==◌, ◌&&◌, not, cond, Bool, true, false, Option, Some, None, ℤ, List, [], ◌∷◌, refl, ap, subst, sym}
-use Rattle.std.specs.List.{AllByRecursion}
-use Rattle.std.proofs.lemmas.Bool.{and_parts, eqb-true}
+use Rattle.std.proofs.Common.{◌≡◌, ℕ, ◌&&◌, not, Bool, true, false, Some, ℤ, List, [], ◌∷◌, refl, ap}
+use Rattle.std.proofs.lemmas.Bool.{and_parts, not-true}
 use Rattle.liszt_lexer.specs.declared.token.TokenKind.{TokenKind}
 use Rattle.liszt_lexer.specs.declared.token.TokenKind.TheVariants.{Name as NameToken, Number as NumberToken, Word, Symbol, MinSet, MaxSet}
-use Rattle.liszt_base.specs.declared.elements.Op.TheVariants.{Add, Mul, And as AndBits, Or as OrBits, Xor, Min, Max}
+use Rattle.liszt_base.specs.declared.elements.Op.TheVariants.{Add, Mul, And as AndBits, Or as OrBits, Xor}
 use Rattle.liszt_base.specs.declared.elements.Kind.{Kind}
 use Rattle.liszt_base.specs.declared.elements.SetName.{SetName}
 use Rattle.liszt_tree.specs.declared.tree.Fun.{Fun}
@@ -16,20 +15,17 @@ use Rattle.liszt_tree.specs.declared.tree.Rel.{Rel}
 use Rattle.liszt_tree.specs.declared.tree.Rel.TheVariants.{Same, Other, Below, AtMost, Above, AtLeast}
 use Rattle.liszt_tree.specs.declared.tree.Sign.{Sign}
 use Rattle.liszt_tree.specs.declared.tree.Sign.TheVariants as sign
-use Rattle.liszt_parser.specs.Depth.{is_open_bracket, is_close_bracket, opens, closes, is_minus, is_bang, closes_bracket, holds_operand, is_operand_end}
-use Rattle.liszt_parser.specs.Grammar.{Lexeme, look_up, fun_of, kind_of, whole_of, set_of, at_symbol, sign_of, rel_of, how_of, open_bracket, close_bracket, open_brace, close_brace, minus, bang}
+use Rattle.liszt_parser.specs.Depth.{is_open_bracket, is_close_bracket, opens, closes, is_minus, is_bang, holds_operand, is_operand_end}
+use Rattle.liszt_parser.specs.Grammar.{Lexeme, fun_of, kind_of, whole_of, set_of, sign_of, rel_of, how_of, open_bracket, close_bracket, open_brace, close_brace, minus, bang}
 use Rattle.liszt_parser.proofs.RoundTripFronts.{of_kind, IsPlain, IsQuiet, IsOperator, begins_open}
 use Rattle.liszt_parser.proofs.RoundTripSegments.{IsAtom, IsOpening, IsClosing, IsCaller, IsInfix, IsOpeningBrace, IsClosingBrace}
+use Rattle.liszt_parser.proofs.RoundTripTables.{table_symbol}
 
 -- BY A TEST
 abbrev pub is_plain : TokenKind → Bool
 is_plain kind =
     not (is_open_bracket (of_kind kind)) && (not (is_close_bracket (of_kind kind)) && (not (opens (of_kind kind))
     && (not (closes (of_kind kind)) && not (is_bang (of_kind kind)))))
-
-turned : (b : Bool) → not b ≡ true → b ≡ false
-turned true e = cc
-turned false e = refl
 
 pub plain_of : (kind : TokenKind) → is_plain kind ≡ true → IsPlain kind
 plain_of kind e =
@@ -39,11 +35,11 @@ plain_of kind e =
     let c = and_parts (not (opens t)) (not (closes t) && not (is_bang t)) b.1 in
     let d = and_parts (not (closes t)) (not (is_bang t)) c.1 in
     record {
-      no_open = turned (is_open_bracket t) a.0;
-      no_close = turned (is_close_bracket t) b.0;
-      no_opens = turned (opens t) c.0;
-      no_closes = turned (closes t) d.0;
-      no_bang = turned (is_bang t) d.1;
+      no_open = not-true (is_open_bracket t) a.0;
+      no_close = not-true (is_close_bracket t) b.0;
+      no_opens = not-true (opens t) c.0;
+      no_closes = not-true (closes t) d.0;
+      no_bang = not-true (is_bang t) d.1;
     }
 
 -- a token that leads an expression, quiet and no end of one
@@ -144,44 +140,52 @@ pub set_caller : (kind : TokenKind) (set : SetName) → set_of kind ≡ Some set
 set_caller (Word place) set e = word_caller place
 set_caller _ set e = cc
 
--- What holds of all symbols of a table holds of one that stands for something there.
-found : {A : Type 0} (P : TokenKind → Type 0) (table : List (ℕ × A)) (place : ℕ) (x : A)
-    → AllByRecursion (λ entry. P (Symbol entry.0)) table → look_up table place ≡ Some x → P (Symbol place)
-found P [] place x all e = cc
-found {A} P (entry ∷ table) place x all e = go (entry.0 == place) refl e (found P table place x all.1) where
-  go : (b : Bool) → (entry.0 == place) ≡ b → cond b (Some entry.1) (look_up table place) ≡ Some x
-      → (look_up table place ≡ Some x → P (Symbol place)) → P (Symbol place)
-  go true same e more = subst (λ n. P (Symbol n)) (eqb-true entry.0 place same) all.0
-  go false same e more = more e
-
-table_symbol : {A : Type 0} (P : TokenKind → Type 0) (table : List (ℕ × A)) (kind : TokenKind) (x : A)
-    → AllByRecursion (λ entry. P (Symbol entry.0)) table → at_symbol table kind ≡ Some x → P kind
-table_symbol P table (Symbol place) x all e = found P table place x all e
-table_symbol P table _ x all e = cc
-
+-- Operators and assignments are symbols of their tables.
 pub sign_infix : (level : Level) (kind : TokenKind) (s : Sign) → sign_of level kind ≡ Some s → IsInfix kind
-sign_infix Or kind s e = table_symbol IsInfix ((15, sign.Or) ∷ []) kind s (infix_of (Symbol 15) refl refl, tt) e
-sign_infix And kind s e = table_symbol IsInfix ((14, sign.And) ∷ []) kind s (infix_of (Symbol 14) refl refl, tt) e
+sign_infix Or kind s e = table_symbol (λ kind x. IsInfix kind) ((15, sign.Or) ∷ []) kind s (infix_of (Symbol 15) refl refl, tt) e
+sign_infix And kind s e = table_symbol (λ kind x. IsInfix kind) ((14, sign.And) ∷ []) kind s (infix_of (Symbol 14) refl refl, tt) e
 sign_infix Sum kind s e =
-    table_symbol IsInfix ((16, sign.Plus) ∷ (17, sign.Minus) ∷ []) kind s
+    table_symbol (λ kind x. IsInfix kind) ((16, sign.Plus) ∷ (17, sign.Minus) ∷ []) kind s
     (infix_of (Symbol 16) refl refl, (infix_of (Symbol 17) refl refl, tt)) e
 sign_infix Product kind s e =
-    table_symbol IsInfix ((18, sign.Times) ∷ (19, sign.Over) ∷ (20, sign.Rest) ∷ []) kind s
+    table_symbol (λ kind x. IsInfix kind) ((18, sign.Times) ∷ (19, sign.Over) ∷ (20, sign.Rest) ∷ []) kind s
     (infix_of (Symbol 18) refl refl, (infix_of (Symbol 19) refl refl, (infix_of (Symbol 20) refl refl, tt))) e
 
 pub rel_infix : (kind : TokenKind) (rel : Rel) → rel_of kind ≡ Some rel → IsInfix kind
 rel_infix kind rel e =
-    table_symbol IsInfix ((8, Same) ∷ (9, Other) ∷ (10, AtMost) ∷ (11, AtLeast) ∷ (12, Below) ∷ (13, Above) ∷ []) kind rel
-    (infix_of (Symbol 8) refl refl, (infix_of (Symbol 9) refl refl, (infix_of (Symbol 10) refl refl,
-    (infix_of (Symbol 11) refl refl, (infix_of (Symbol 12) refl refl, (infix_of (Symbol 13) refl refl, tt)))))) e
+    table_symbol (λ kind x. IsInfix kind) ((8, Same) ∷ (9, Other) ∷ (10, AtMost) ∷ (11, AtLeast) ∷ (12, Below) ∷ (13, Above) ∷ []) kind rel (
+      infix_of (Symbol 8) refl refl,
+      (
+        infix_of (Symbol 9) refl refl,
+        (
+          infix_of (Symbol 10) refl refl,
+          (infix_of (Symbol 11) refl refl, (infix_of (Symbol 12) refl refl, (infix_of (Symbol 13) refl refl, tt))),
+        ),
+      ),
+    ) e
 
 pub how_lead : (kind : TokenKind) (how : How) → how_of kind ≡ Some how → IsLead kind
 how_lead MinSet how e = lead_of MinSet refl refl refl
 how_lead MaxSet how e = lead_of MaxSet refl refl refl
 how_lead (Symbol place) how e =
-    table_symbol IsLead
-    ((22, Set) ∷ (23, Fold Add) ∷ (24, Less) ∷ (25, Fold Mul) ∷ (26, Fold AndBits) ∷ (27, Fold OrBits) ∷ (28, Fold Xor) ∷ []) (Symbol place) how
-    (lead_of (Symbol 22) refl refl refl, (lead_of (Symbol 23) refl refl refl, (lead_of (Symbol 24) refl refl refl,
-    (lead_of (Symbol 25) refl refl refl, (lead_of (Symbol 26) refl refl refl, (lead_of (Symbol 27) refl refl refl,
-    (lead_of (Symbol 28) refl refl refl, tt))))))) e
+    table_symbol (λ kind x. IsLead kind)
+    ((22, Set) ∷ (23, Fold Add) ∷ (24, Less) ∷ (25, Fold Mul) ∷ (26, Fold AndBits) ∷ (27, Fold OrBits) ∷ (28, Fold Xor) ∷ []) (Symbol place) how (
+      lead_of (Symbol 22) refl refl refl,
+      (
+        lead_of (Symbol 23) refl refl refl,
+        (
+          lead_of (Symbol 24) refl refl refl,
+          (
+            lead_of (Symbol 25) refl refl refl,
+            (
+              lead_of (Symbol 26) refl refl refl,
+              (
+                lead_of (Symbol 27) refl refl refl,
+                (lead_of (Symbol 28) refl refl refl, tt),
+              ),
+            ),
+          ),
+        ),
+      ),
+    ) e
 how_lead _ how e = cc

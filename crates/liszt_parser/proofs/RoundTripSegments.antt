@@ -1,12 +1,12 @@
 -- Parts of a text's tokens, how deep they go at most, and what they leave behind them.
-use Rattle.std.proofs.Common.{◌≡◌, ℕ, zero, suc, ◌+◌, ◌≤◌, max, ◌&&◌, not, cond, Bool, true, false, Option, Some, None, List, [], ◌∷◌, ◌++◌}
+use Rattle.std.proofs.Common.{◌≡◌, ℕ, suc, ◌+◌, ◌≤◌, max, ◌&&◌, not, cond, Bool, true, false, Option, Some, None, List, [], ◌∷◌, ◌++◌}
 use Rattle.std.proofs.Common.{refl, sym, ap, subst, ◌∙◌, append_assoc, arith}
 use Rattle.std.specs.List.{count_by}
 use Rattle.std.proofs.lemmas.List.{append-nil}
 use Rattle.liszt_lexer.specs.declared.token.TokenKind.{TokenKind}
-use Rattle.liszt_parser.specs.Depth.{is_open_bracket, is_close_bracket, opens, closes, is_minus, is_bang, closes_bracket, ends_alone, holds_operand, is_operand_end, is_prefix, pending, depth}
-use Rattle.liszt_parser.specs.Grammar.{Lexeme, open_bracket, close_bracket, open_brace, close_brace}
-use Rattle.liszt_parser.proofs.RoundTripFronts.{of_kind, IsPlain, IsQuiet, IsOperator, counted, not_counted, one_counted, plain_skips, opening_step, closing_step, closing_last, passes, quiet_is_no_prefix, plain_behind_operand, unless, unless_none, unless_less, StaysInside, begins_open, Front, depth_of, ShallowIn, shallow_here, joined, parted, behind, behind_operator}
+use Rattle.liszt_parser.specs.Depth.{is_open_bracket, is_close_bracket, opens, closes, closes_bracket, holds_operand, is_operand_end, is_prefix, pending, depth}
+use Rattle.liszt_parser.specs.Grammar.{Lexeme}
+use Rattle.liszt_parser.proofs.RoundTripFronts.{of_kind, IsPlain, IsQuiet, IsOperator, counted, not_counted, one_counted, plain_skips, opening_step, closing_step, closing_last, passes, quiet_is_no_prefix, plain_behind_operand, unless, unless_none, unless_less, StaysInside, begins_open, Front, depth_of, ShallowIn, joined, parted, behind, behind_operator}
 
 -- WHERE A PART MAY STAND: behind which token, how many prefix operators wait for it, and whether no bracket may come
 abbrev pub Entry : Type 1
@@ -58,7 +58,7 @@ pub leaves : {enters : Entry} {ts left front : List Lexeme} {before : Option Lex
 leaves {front} {before} {k} {q} {p} {stop} part h here =
     record {
       opened =
-        omega (arith, h.opened, counted opens front part.tokens, counted closes front part.tokens, part.even);
+          omega (arith, h.opened, counted opens front part.tokens, counted closes front part.tokens, part.even);
       pends = λ ts inside free. step ts inside (free refl);
     }
   where
@@ -122,41 +122,41 @@ then {a} {b} {m} {n} {ts} {mid} {left} none first joins second =
         last = λ before. second.part.last (first.part.last before);
         is = first.part.is ∙ ap (λ l. first.part.tokens ++ l) second.part.is ∙ sym (append_assoc first.part.tokens second.part.tokens left);
         even =
-          omega (
-            arith,
-            counted opens first.part.tokens second.part.tokens,
-            counted closes first.part.tokens second.part.tokens,
-            first.part.even,
-            second.part.even,
-          );
+            omega (
+              arith,
+              counted opens first.part.tokens second.part.tokens,
+              counted closes first.part.tokens second.part.tokens,
+              first.part.even,
+              second.part.even,
+            );
         skips = λ i more.
-          ap (closes_bracket (suc i)) (append_assoc first.part.tokens second.part.tokens more)
-          ∙ first.part.skips i (second.part.tokens ++ more) ∙ second.part.skips i more;
+            ap (closes_bracket (suc i)) (append_assoc first.part.tokens second.part.tokens more)
+            ∙ first.part.skips i (second.part.tokens ++ more) ∙ second.part.skips i more;
         begins = λ before p stop here e more free.
-          ap begins_open (append_assoc first.part.tokens second.part.tokens more)
-          ∙ first.part.begins before p stop here e (second.part.tokens ++ more) (goes_on before p stop here more free);
+            ap begins_open (append_assoc first.part.tokens second.part.tokens more)
+            ∙ first.part.begins before p stop here e (second.part.tokens ++ more) (goes_on before p stop here more free);
         settles = λ before p stop here more free.
-          ap (λ l. unless (holds_operand l) p) (append_assoc first.part.tokens second.part.tokens more)
-          ∙ first.part.settles before p stop here (second.part.tokens ++ more) (goes_on before p stop here more free);
+            ap (λ l. unless (holds_operand l) p) (append_assoc first.part.tokens second.part.tokens more)
+            ∙ first.part.settles before p stop here (second.part.tokens ++ more) (goes_on before p stop here more free);
         ends = λ before p stop here more free.
-          ap (pending before) (append_assoc first.part.tokens second.part.tokens more)
-          ∙ first.part.ends before p stop here (second.part.tokens ++ more) (goes_on before p stop here more free)
-          ∙ second.part.ends (first.part.last before) 0 true (joins before p stop here) more free;
+            ap (pending before) (append_assoc first.part.tokens second.part.tokens more)
+            ∙ first.part.ends before p stop here (second.part.tokens ++ more) (goes_on before p stop here more free)
+            ∙ second.part.ends (first.part.last before) 0 true (joins before p stop here) more free;
       };
       lower = λ front before k q p stop f here h.
-        let parts = parted front first.part.tokens second.part.tokens h in
-        omega (
-          arith,
-          none before p stop here,
-          first.lower front before k q p stop f here parts.0,
-          second.lower (front ++ first.part.tokens) (first.part.last before) k q 0 true (leaves first.part f here)
-            (joins before p stop here) parts.1,
-        );
+          let parts = parted front first.part.tokens second.part.tokens h in
+          omega (
+            arith,
+            none before p stop here,
+            first.lower front before k q p stop f here parts.0,
+            second.lower (front ++ first.part.tokens) (first.part.last before) k q 0 true (leaves first.part f here)
+                (joins before p stop here) parts.1,
+          );
       upper = λ front before k q p stop f here h.
-        joined front first.part.tokens second.part.tokens
-        (first.upper front before k q p stop f here (omega arith))
-        (second.upper (front ++ first.part.tokens) (first.part.last before) k q 0 true (leaves first.part f here)
-        (joins before p stop here) (omega arith));
+          joined front first.part.tokens second.part.tokens
+          (first.upper front before k q p stop f here (omega arith))
+          (second.upper (front ++ first.part.tokens) (first.part.last before) k q 0 true (leaves first.part f here)
+          (joins before p stop here) (omega arith));
     }
   where
     goes_on : (before : Option Lexeme) (p : ℕ) (stop : Bool) → a before p stop → (more : List Lexeme) → begins_open more ≡ false
@@ -179,16 +179,16 @@ token {a} {m} {ts} {left} t plain passed there s =
         begins = λ before p stop here e more free. plain.no_open;
         settles = λ before p stop here more free. unless_none (holds_operand (t ∷ (s.part.tokens ++ more))) p (passed before p stop here).0;
         ends = λ before p stop here more free.
-          passes before t (s.part.tokens ++ more) (passed before p stop here).1 ∙ s.part.ends (Some t) 0 false there more free;
+            passes before t (s.part.tokens ++ more) (passed before p stop here).1 ∙ s.part.ends (Some t) 0 false there more free;
       };
       lower = λ front before k q p stop f here h.
-        let e = (passed before p stop here).0 in
-        let f' = behind t (subst (λ n. Front front before k q n stop) e f) plain (passed before p stop here).1 in
-        omega (arith, e, s.lower (front ++ t ∷ []) (Some t) k q 0 false f' there h.1);
+          let e = (passed before p stop here).0 in
+          let f' = behind t (subst (λ n. Front front before k q n stop) e f) plain (passed before p stop here).1 in
+          omega (arith, e, s.lower (front ++ t ∷ []) (Some t) k q 0 false f' there h.1);
       upper = λ front before k q p stop f here h.
-        let e = (passed before p stop here).0 in
-        let f' = behind t (subst (λ n. Front front before k q n stop) e f) plain (passed before p stop here).1 in
-        (omega (arith, depth_of f, h), s.upper (front ++ t ∷ []) (Some t) k q 0 false f' there (omega (arith, e, h)));
+          let e = (passed before p stop here).0 in
+          let f' = behind t (subst (λ n. Front front before k q n stop) e f) plain (passed before p stop here).1 in
+          (omega (arith, depth_of f, h), s.upper (front ++ t ∷ []) (Some t) k q 0 false f' there (omega (arith, e, h)));
     }
 
 -- A PREFIX OPERATOR before its operand
@@ -208,15 +208,15 @@ operator {m} {ts} {left} t is s =
         skips = λ n more. plain_skips t (suc n) (s.part.tokens ++ more) is.no_open is.no_close ∙ s.part.skips n more;
         begins = λ before p stop here e more free. is.no_open;
         settles = λ before p stop here more free.
-          ap (λ b. unless b p) (is.holds (s.part.tokens ++ more)) ∙ s.part.settles (Some t) p false (refl, is.no_end) more free;
+            ap (λ b. unless b p) (is.holds (s.part.tokens ++ more)) ∙ s.part.settles (Some t) p false (refl, is.no_end) more free;
         ends = λ before p stop here more free. ended before more free;
       };
       lower = λ front before k q p stop f here h.
-        let f' = behind_operator t (subst (λ b. Front front before k q p b) here.0 f) is here.1 in
-        omega (arith, s.lower (front ++ t ∷ []) (Some t) k q (suc p) false f' (refl, is.no_end) h.1);
+          let f' = behind_operator t (subst (λ b. Front front before k q p b) here.0 f) is here.1 in
+          omega (arith, s.lower (front ++ t ∷ []) (Some t) k q (suc p) false f' (refl, is.no_end) h.1);
       upper = λ front before k q p stop f here h.
-        let f' = behind_operator t (subst (λ b. Front front before k q p b) here.0 f) is here.1 in
-        (omega (arith, depth_of f, h), s.upper (front ++ t ∷ []) (Some t) k q (suc p) false f' (refl, is.no_end) (omega (arith, h)));
+          let f' = behind_operator t (subst (λ b. Front front before k q p b) here.0 f) is here.1 in
+          (omega (arith, depth_of f, h), s.upper (front ++ t ∷ []) (Some t) k q (suc p) false f' (refl, is.no_end) (omega (arith, h)));
     }
   where
     none : (a b : Bool) → b ≡ true → (n : ℕ) → cond (a && not b) 1 0 + n ≡ n
@@ -330,7 +330,7 @@ one_head t is =
       skips = λ n ts. plain_skips t n ts is.quiet.plain.no_open is.quiet.plain.no_close;
       holds = λ o ts opening. is.calls o ts opening.is_open;
       ends = λ before o ts opening.
-        passes before t (o ∷ ts) (quiet_is_no_prefix before t is.quiet) ∙ passes (Some t) o ts (opening.no_prefix (Some t));
+          passes before t (o ∷ ts) (quiet_is_no_prefix before t is.quiet) ∙ passes (Some t) o ts (opening.no_prefix (Some t));
       upper = λ front before k q p f h. (omega (arith, depth_of f, h), omega (arith, at_caller t f is.quiet, h));
     }
 
@@ -343,18 +343,18 @@ in_bracket : {front head : List Lexeme} {before : Option Lexeme} {k q p : ℕ} (
 in_bracket {front} {head} {before} {k} {q} {p} o h is f =
     record {
       opened =
-        omega (
-          arith,
-          f.opened,
-          h.no_opens,
-          h.no_closes,
-          counted opens (front ++ head) (o ∷ []),
-          counted closes (front ++ head) (o ∷ []),
-          counted opens front head,
-          counted closes front head,
-          one_counted opens o [] is.is_opens,
-          not_counted closes o [] is.no_closes,
-        );
+          omega (
+            arith,
+            f.opened,
+            h.no_opens,
+            h.no_closes,
+            counted opens (front ++ head) (o ∷ []),
+            counted closes (front ++ head) (o ∷ []),
+            counted opens front head,
+            counted closes front head,
+            one_counted opens o [] is.is_opens,
+            not_counted closes o [] is.no_closes,
+          );
       pends = λ ts inside free. step ts inside;
     }
   where
@@ -383,35 +383,35 @@ bracketed {a} {m} {ts} {left} head o c h is closing there s =
       tokens = head ++ o ∷ (s.part.tokens ++ c ∷ []);
       last = λ before. Some c;
       is =
-        ap (λ (l : List Lexeme). head ++ o ∷ l) (s.part.is ∙ sym (append_assoc s.part.tokens (c ∷ []) left))
-        ∙ sym (append_assoc head (o ∷ (s.part.tokens ++ c ∷ [])) left);
+          ap (λ (l : List Lexeme). head ++ o ∷ l) (s.part.is ∙ sym (append_assoc s.part.tokens (c ∷ []) left))
+          ∙ sym (append_assoc head (o ∷ (s.part.tokens ++ c ∷ [])) left);
       even =
-        omega (
-          arith,
-          h.no_opens,
-          h.no_closes,
-          s.part.even,
-          counted opens head (o ∷ (s.part.tokens ++ c ∷ [])),
-          counted closes head (o ∷ (s.part.tokens ++ c ∷ [])),
-          one_counted opens o (s.part.tokens ++ c ∷ []) is.is_opens,
-          not_counted closes o (s.part.tokens ++ c ∷ []) is.no_closes,
-          counted opens s.part.tokens (c ∷ []),
-          counted closes s.part.tokens (c ∷ []),
-          not_counted opens c [] closing.no_opens,
-          one_counted closes c [] closing.is_closes,
-        );
+          omega (
+            arith,
+            h.no_opens,
+            h.no_closes,
+            s.part.even,
+            counted opens head (o ∷ (s.part.tokens ++ c ∷ [])),
+            counted closes head (o ∷ (s.part.tokens ++ c ∷ [])),
+            one_counted opens o (s.part.tokens ++ c ∷ []) is.is_opens,
+            not_counted closes o (s.part.tokens ++ c ∷ []) is.no_closes,
+            counted opens s.part.tokens (c ∷ []),
+            counted closes s.part.tokens (c ∷ []),
+            not_counted opens c [] closing.no_opens,
+            one_counted closes c [] closing.is_closes,
+          );
       skips = λ n more.
-        ap (closes_bracket (suc n)) (inside more) ∙ h.skips (suc n) (o ∷ (s.part.tokens ++ c ∷ more))
-        ∙ opening_step o (suc n) (s.part.tokens ++ c ∷ more) is.is_open is.no_close ∙ s.part.skips (suc n) (c ∷ more)
-        ∙ closing_step c n more closing.no_open closing.is_close;
+          ap (closes_bracket (suc n)) (inside more) ∙ h.skips (suc n) (o ∷ (s.part.tokens ++ c ∷ more))
+          ∙ opening_step o (suc n) (s.part.tokens ++ c ∷ more) is.is_open is.no_close ∙ s.part.skips (suc n) (c ∷ more)
+          ∙ closing_step c n more closing.no_open closing.is_close;
       begins = λ before p stop here e more free. no_stop (sym here ∙ e);
       settles = λ before p stop here more free.
-        ap (λ l. unless (holds_operand l) p) (inside more)
-        ∙ ap (λ b. unless b p) (h.holds o (s.part.tokens ++ c ∷ more) is ∙ s.part.skips 0 (c ∷ more) ∙ closing_last c more closing.is_close);
+          ap (λ l. unless (holds_operand l) p) (inside more)
+          ∙ ap (λ b. unless b p) (h.holds o (s.part.tokens ++ c ∷ more) is ∙ s.part.skips 0 (c ∷ more) ∙ closing_last c more closing.is_close);
       ends = λ before p stop here more free.
-        ap (pending before) (inside more) ∙ h.ends before o (s.part.tokens ++ c ∷ more) is
-        ∙ s.part.ends (Some o) 0 false there (c ∷ more) closing.no_open
-        ∙ passes (s.part.last (Some o)) c more (closing.no_prefix (s.part.last (Some o)));
+          ap (pending before) (inside more) ∙ h.ends before o (s.part.tokens ++ c ∷ more) is
+          ∙ s.part.ends (Some o) 0 false there (c ∷ more) closing.no_open
+          ∙ passes (s.part.last (Some o)) c more (closing.no_prefix (s.part.last (Some o)));
     }
   where
     inside : (more : List Lexeme) → head ++ o ∷ (s.part.tokens ++ c ∷ []) ++ more ≡ head ++ o ∷ (s.part.tokens ++ c ∷ more)
@@ -427,22 +427,23 @@ brackets {a} {m} {ts} {left} head o c h is closing there s =
     record {
       part = part;
       lower = λ front before k q p stop f here deep.
-        let f' = in_bracket o h is (subst (λ b. Front front before k q p b) here f) in
-        let parts = parted front head (o ∷ (s.part.tokens ++ c ∷ [])) deep in
-        let inner = parted (front ++ head ++ o ∷ []) s.part.tokens (c ∷ []) parts.1.1 in
-        omega (arith, s.lower (front ++ head ++ o ∷ []) (Some o) (suc k) (q + p) 0 false f' there inner.0);
+          let f' = in_bracket o h is (subst (λ b. Front front before k q p b) here f) in
+          let parts = parted front head (o ∷ (s.part.tokens ++ c ∷ [])) deep in
+          let inner = parted (front ++ head ++ o ∷ []) s.part.tokens (c ∷ []) parts.1.1 in
+          omega (arith, s.lower (front ++ head ++ o ∷ []) (Some o) (suc k) (q + p) 0 false f' there inner.0);
       upper = λ front before k q p stop f here deep.
-        let f₀ = subst (λ b. Front front before k q p b) here f in
-        let f' = in_bracket o h is f₀ in
-        let inner = s.upper (front ++ head ++ o ∷ []) (Some o) (suc k) (q + p) 0 false f' there (omega (arith, deep)) in
-        let last : depth (front ++ head ++ o ∷ [] ++ s.part.tokens ++ c ∷ []) ≤ 64 =
-        subst (λ l. depth l ≤ 64) (sym (whole front)) (omega (arith, depth_of (leaves part f here), deep)) in
-        let closed : ShallowIn (front ++ head ++ o ∷ [] ++ s.part.tokens) (c ∷ []) =
-        (omega (arith, depth_of (leaves s.part f' there), deep), last) in
-        let before_it = h.upper front before k q p f₀ (omega (arith, deep)) in
-        joined front head (o ∷ (s.part.tokens ++ c ∷ [])) before_it
-        (shallow_behind front head before_it,
-        joined (front ++ head ++ o ∷ []) s.part.tokens (c ∷ []) inner closed);
+          let f₀ = subst (λ b. Front front before k q p b) here f in
+          let f' = in_bracket o h is f₀ in
+          let inner = s.upper (front ++ head ++ o ∷ []) (Some o) (suc k) (q + p) 0 false f' there (omega (arith, deep)) in
+          let last : depth (front ++ head ++ o ∷ [] ++ s.part.tokens ++ c ∷ []) ≤ 64 =
+          subst (λ l. depth l ≤ 64) (sym (whole front)) (omega (arith, depth_of (leaves part f here), deep)) in
+          let closed : ShallowIn (front ++ head ++ o ∷ [] ++ s.part.tokens) (c ∷ []) =
+          (omega (arith, depth_of (leaves s.part f' there), deep), last) in
+          let before_it = h.upper front before k q p f₀ (omega (arith, deep)) in
+          joined front head (o ∷ (s.part.tokens ++ c ∷ [])) before_it (
+            shallow_behind front head before_it,
+            joined (front ++ head ++ o ∷ []) s.part.tokens (c ∷ []) inner closed,
+          );
     }
   where
     whole : (front : List Lexeme) → front ++ head ++ o ∷ [] ++ s.part.tokens ++ c ∷ [] ≡ front ++ (head ++ o ∷ (s.part.tokens ++ c ∷ []))
@@ -471,14 +472,14 @@ in_brace : {front : List Lexeme} {before : Option Lexeme} {k q p : ℕ} {stop : 
 in_brace {front} {before} {k} {q} {p} {stop} o is none f =
     record {
       opened =
-        omega (
-          arith,
-          f.opened,
-          counted opens front (o ∷ []),
-          counted closes front (o ∷ []),
-          one_counted opens o [] is.is_opens,
-          not_counted closes o [] is.no_closes,
-        );
+          omega (
+            arith,
+            f.opened,
+            counted opens front (o ∷ []),
+            counted closes front (o ∷ []),
+            one_counted opens o [] is.is_opens,
+            not_counted closes o [] is.no_closes,
+          );
       pends = λ ts inside free. step ts inside;
     }
   where
@@ -499,26 +500,26 @@ braced {m} {ts} {left} o c is closing s =
       last = λ before. Some c;
       is = ap (λ (l : List Lexeme). o ∷ l) (s.part.is ∙ sym (append_assoc s.part.tokens (c ∷ []) left));
       even =
-        omega (
-          arith,
-          s.part.even,
-          one_counted opens o (s.part.tokens ++ c ∷ []) is.is_opens,
-          not_counted closes o (s.part.tokens ++ c ∷ []) is.no_closes,
-          counted opens s.part.tokens (c ∷ []),
-          counted closes s.part.tokens (c ∷ []),
-          not_counted opens c [] closing.no_opens,
-          one_counted closes c [] closing.is_closes,
-        );
+          omega (
+            arith,
+            s.part.even,
+            one_counted opens o (s.part.tokens ++ c ∷ []) is.is_opens,
+            not_counted closes o (s.part.tokens ++ c ∷ []) is.no_closes,
+            counted opens s.part.tokens (c ∷ []),
+            counted closes s.part.tokens (c ∷ []),
+            not_counted opens c [] closing.no_opens,
+            one_counted closes c [] closing.is_closes,
+          );
       skips = λ n more.
-        plain_skips o (suc n) (s.part.tokens ++ c ∷ [] ++ more) is.no_open is.no_close
-        ∙ ap (closes_bracket (suc n)) (append_assoc s.part.tokens (c ∷ []) more) ∙ s.part.skips n (c ∷ more)
-        ∙ plain_skips c (suc n) more closing.no_open closing.no_close;
+          plain_skips o (suc n) (s.part.tokens ++ c ∷ [] ++ more) is.no_open is.no_close
+          ∙ ap (closes_bracket (suc n)) (append_assoc s.part.tokens (c ∷ []) more) ∙ s.part.skips n (c ∷ more)
+          ∙ plain_skips c (suc n) more closing.no_open closing.no_close;
       begins = λ before p stop here e more free. is.no_open;
       settles = λ before p stop here more free. unless_none (holds_operand (o ∷ (s.part.tokens ++ c ∷ [] ++ more))) p here;
       ends = λ before p stop here more free.
-        passes before o (s.part.tokens ++ c ∷ [] ++ more) (is.no_prefix before)
-        ∙ ap (pending (Some o)) (append_assoc s.part.tokens (c ∷ []) more) ∙ s.part.ends (Some o) 0 false refl (c ∷ more) closing.no_open
-        ∙ passes (s.part.last (Some o)) c more (closing.no_prefix (s.part.last (Some o)));
+          passes before o (s.part.tokens ++ c ∷ [] ++ more) (is.no_prefix before)
+          ∙ ap (pending (Some o)) (append_assoc s.part.tokens (c ∷ []) more) ∙ s.part.ends (Some o) 0 false refl (c ∷ more) closing.no_open
+          ∙ passes (s.part.last (Some o)) c more (closing.no_prefix (s.part.last (Some o)));
     }
 
 pub braces : {m : ℕ} {ts left : List Lexeme} (o c : Lexeme) → IsOpeningBrace o.kind → IsClosingBrace c.kind
@@ -529,15 +530,17 @@ braces {m} {ts} {left} o c is closing s =
     record {
       part = part;
       lower = λ front before k q p stop f here deep.
-        let inner = parted (front ++ o ∷ []) s.part.tokens (c ∷ []) deep.1 in
-        omega (arith, here, s.lower (front ++ o ∷ []) (Some o) (suc k) q 0 false (in_brace o is here f) refl inner.0);
+          let inner = parted (front ++ o ∷ []) s.part.tokens (c ∷ []) deep.1 in
+          omega (arith, here, s.lower (front ++ o ∷ []) (Some o) (suc k) q 0 false (in_brace o is here f) refl inner.0);
       upper = λ front before k q p stop f here deep.
-        let f' = in_brace o is here f in
-        let last : depth (front ++ o ∷ [] ++ s.part.tokens ++ c ∷ []) ≤ 64 =
-        subst (λ l. depth l ≤ 64) (sym (whole front)) (omega (arith, depth_of (leaves part f here), deep)) in
-        (omega (arith, depth_of f, deep), joined (front ++ o ∷ []) s.part.tokens (c ∷ [])
-        (s.upper (front ++ o ∷ []) (Some o) (suc k) q 0 false f' refl (omega (arith, here, deep)))
-        (omega (arith, depth_of (leaves s.part f' refl), here, deep), last));
+          let f' = in_brace o is here f in
+          let last : depth (front ++ o ∷ [] ++ s.part.tokens ++ c ∷ []) ≤ 64 =
+          subst (λ l. depth l ≤ 64) (sym (whole front)) (omega (arith, depth_of (leaves part f here), deep)) in (
+            omega (arith, depth_of f, deep),
+            joined (front ++ o ∷ []) s.part.tokens (c ∷ [])
+                (s.upper (front ++ o ∷ []) (Some o) (suc k) q 0 false f' refl (omega (arith, here, deep)))
+                (omega (arith, depth_of (leaves s.part f' refl), here, deep), last),
+          );
     }
   where
     whole : (front : List Lexeme) → front ++ o ∷ [] ++ s.part.tokens ++ c ∷ [] ≡ front ++ (o ∷ (s.part.tokens ++ c ∷ []))
@@ -587,7 +590,7 @@ unfolding then token
 a_link t is s more =
     record {
       segment =
-        token t is.plain (λ before p stop here. (here.0, plain_behind_operand before t is.plain here.1)) (refl, is.no_end, refl)
+          token t is.plain (λ before p stop here. (here.0, plain_behind_operand before t is.plain here.1)) (refl, is.no_end, refl)
           (then (λ before p stop here. here.2) s.segment (λ before p stop here. (refl, s.ended before)) more.segment);
       ended = λ before e. more.ended (s.segment.part.last (Some t)) (s.ended (Some t));
     }

@@ -1,28 +1,25 @@
 -- The tokens of a canonical text go no deeper than its tree says.
-use Rattle.std.proofs.Common.{◌≡◌, ℕ, suc, ◌+◌, ◌≤◌, max, nat_le, nat_lt, Bool, true, false, Option, Some, None, List, [], ◌∷◌, ◌++◌}
-use Rattle.std.proofs.Common.{codes, refl, sym, ap, subst, ◌∙◌, arith}
+use Rattle.std.proofs.Common.{◌≡◌, ℕ, suc, ◌≤◌, max, nat_le, nat_lt, Bool, true, false, Option, Some, None, List, [], ◌∷◌, ◌++◌}
+use Rattle.std.proofs.Common.{codes, refl, sym, subst, ◌∙◌, arith}
 use Rattle.std.specs.Fmt.{signed_decimal}
 use Rattle.std.proofs.lemmas.List.{append-nil}
 use Rattle.liszt_base.specs.declared.answers.Place.{Place}
 use Rattle.liszt_base.specs.declared.elements.Kind.{Kind}
 use Rattle.liszt_base.specs.declared.elements.Kind.TheVariants.{Vertex, Edge, Face, Cell}
-use Rattle.liszt_lexer.specs.declared.token.TokenKind.{TokenKind}
 use Rattle.liszt_lexer.specs.declared.token.TokenKind.TheVariants.{Name as NameToken, Number as NumberToken, Word}
 use Rattle.liszt_lexer.proofs.Spellings.{Spelling}
-use Rattle.liszt_tree.specs.declared.tree.Level.{Level}
 use Rattle.liszt_tree.specs.declared.tree.Level.TheVariants.{Or, And, Sum, Product}
 use Rattle.liszt_tree.specs.declared.tree.Sign.{Sign}
 use Rattle.liszt_tree.specs.declared.tree.Sign.TheVariants as sign
 use Rattle.liszt_tree.specs.Canonical.{kind_word, whole_word, set_word, fun_word, how_text, sign_text, rel_text, chain_level, level_of}
 use Rattle.liszt_tree.specs.Tree.{Expression, Number, Name, Field, Call, Towards, Neg, Not, Chain, Compare, Links, no_links, link, Statement, Var, Val, Assign, If, While, For, Body, no_statement, statement, MainItem, MainField, MainVar, MainAssign, MainIf, MainWhile, MainFor, Print, Main, no_item, item}
-use Rattle.liszt_parser.specs.Depth.{is_operand_end}
-use Rattle.liszt_parser.specs.Grammar.{Lexeme, open_bracket, close_bracket, open_brace, close_brace, comma, semicolon, colon, arrow, minus, bang, set_to, field_word, var_word, val_word, if_word, else_word, while_word, for_word, print_word, mesh_word, towards_word}
+use Rattle.liszt_parser.specs.Grammar.{Lexeme, open_bracket, close_bracket, open_brace, close_brace, comma, semicolon, colon, arrow, minus, bang, set_to, field_word, if_word, else_word, while_word, for_word, print_word, mesh_word, towards_word}
 use Rattle.liszt_parser.proofs.RoundTripDeep.{in_brackets_deep, expression_deep, links_deep, target_deep, else_deep, statement_deep, body_deep, item_deep, main_deep}
 use Rattle.liszt_parser.proofs.RoundTripFronts.{IsQuiet, ShallowIn, no_front}
-use Rattle.liszt_parser.proofs.RoundTripKinds.{IsLead, opening, closing, opening_brace, closing_brace, minus_operator, bang_operator, quiet_name, name_atom, number_atom, name_caller, word_caller, word_lead, fun_caller, kind_lead, whole_caller, set_caller, rel_infix, how_lead, quiet_of, infix_of, lead_of}
-use Rattle.liszt_parser.proofs.RoundTripSegments.{Entry, Anywhere, AsPart, AsLoose, AsOperand, AsAtom, Segment, Operand, LinkList, IsInfix, IsCaller, IsHead, no_head, one_head, nothing, an_atom, an_operator, in_brackets as bracketed_part, weaker, no_link, a_link, a_chain, then_line, then_part, then_end, before_part, before_loose, before_line, as_part, braces}
-use Rattle.liszt_parser.proofs.RoundTripTree.{placed_word, later, placed, fun_stands, kind_stands, whole_stands, set_stands, rel_stands, how_stands}
-use Rattle.liszt_parser.proofs.RoundTripWords.{Words, spelt, fun_token, kind_token, whole_token, set_token, sign_token, rel_token, how_token, bracketed_words, words_in, words_of, links_words, closed_words, declared_words, headed_words, target_words, ended_words, else_words, statement_words, body_words, item_words, main_words}
+use Rattle.liszt_parser.proofs.RoundTripKinds.{IsLead, opening, closing, opening_brace, closing_brace, minus_operator, bang_operator, quiet_name, name_atom, number_atom, name_caller, word_caller, word_lead, fun_caller, kind_lead, set_caller, rel_infix, how_lead, quiet_of, infix_of, lead_of}
+use Rattle.liszt_parser.proofs.RoundTripSegments.{Entry, Anywhere, AsLoose, AsOperand, AsAtom, Segment, Operand, LinkList, IsInfix, IsHead, no_head, one_head, nothing, an_atom, an_operator, in_brackets as bracketed_part, weaker, no_link, a_link, a_chain, then_line, then_part, then_end, before_part, before_loose, before_line, as_part, braces}
+use Rattle.liszt_parser.proofs.RoundTripTree.{placed_word, later, placed, fun_stands, kind_stands, set_stands, rel_stands, how_stands}
+use Rattle.liszt_parser.proofs.RoundTripWords.{Words, spelt, fun_token, kind_token, whole_token, set_token, sign_token, rel_token, how_token, bracketed_words, words_in, words_of, links_words, closed_words, declared_words, target_words, ended_words, else_words, statement_words, body_words, item_words, main_words}
 
 -- an operator of a chain stands between operands
 sign_infix : (s : Sign) → IsInfix (sign_token s)
@@ -102,7 +99,7 @@ brackets head e at ws h write =
       at = later r.at;
       deep = suc r.deep;
       part =
-        bracketed_part head o (placed_word (r.at 0) close) h opening closing (loose_entry e (Some o) 0 false (refl, refl, refl)) r.part.segment;
+          bracketed_part head o (placed_word (r.at 0) close) h opening closing (loose_entry e (Some o) 0 false (refl, refl, refl)) r.part.segment;
       less = omega (arith, r.less);
     }
 
@@ -160,7 +157,7 @@ mutual
         at = later b.at;
         deep = suc (max a.deep (max b.deep 0));
         part =
-          bracketed_part (t ∷ []) o (placed_word (b.at 0) close) (one_head t (word_caller 20)) opening closing (refl, refl, refl) inner.segment;
+            bracketed_part (t ∷ []) o (placed_word (b.at 0) close) (one_head t (word_caller 20)) opening closing (refl, refl, refl) inner.segment;
         less = omega (arith, a.less, b.less);
       }
   expression (Neg place arg) at ws =
@@ -193,7 +190,7 @@ mutual
         at = b.at;
         deep = max a.deep (max b.deep 0);
         part =
-          a_chain a.part (a_link (placed_word (a.at 0) operator) (rel_infix (rel_token rel) rel (rel_stands rel)) b.part no_link);
+            a_chain a.part (a_link (placed_word (a.at 0) operator) (rel_infix (rel_token rel) rel (rel_stands rel)) b.part no_link);
         less = omega (arith, a.less, b.less);
       }
 
@@ -280,7 +277,7 @@ in_braces words at ws write =
       at = later r.at;
       deep = suc r.deep;
       part =
-        braces (placed_word (at 0) (spelt open_brace (codes "{"))) (placed_word (r.at 0) (spelt close_brace (codes "}"))) opening_brace
+          braces (placed_word (at 0) (spelt open_brace (codes "{"))) (placed_word (r.at 0) (spelt close_brace (codes "}"))) opening_brace
           closing_brace r.part;
       less = omega (arith, r.less);
     }
@@ -318,7 +315,7 @@ looped called set body at ws over write =
       at = r.at;
       deep = max (suc a.deep) r.deep;
       part =
-        before_part w (word_lead 6).quiet
+          before_part w (word_lead 6).quiet
           (then_part (as_part (bracketed_part [] o (placed_word (a.at 0) close) no_head opening closing refl inner)) r.part);
       less = omega (arith, a.less, r.less);
     }
@@ -362,7 +359,7 @@ whole_mesh set place at ws =
       at = later (later (later (later at)));
       deep = 1;
       part =
-        bracketed_part (t ∷ []) (placed_word (at 1) (spelt open_bracket (codes "("))) (placed_word (at 3) (spelt close_bracket (codes ")")))
+          bracketed_part (t ∷ []) (placed_word (at 1) (spelt open_bracket (codes "("))) (placed_word (at 3) (spelt close_bracket (codes ")")))
           (one_head t (word_caller place)) opening closing refl inner;
       less = omega arith;
     }

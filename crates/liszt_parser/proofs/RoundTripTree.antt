@@ -105,22 +105,20 @@ looser (suc (suc (suc (suc zero)))) ts left e d = one_operand d
 looser (suc (suc (suc (suc (suc zero))))) ts left e d = no_prefix d
 looser (suc (suc (suc (suc (suc (suc n)))))) ts left e d = d
 
+up_to : (m n : ℕ) → n < suc m → (n ≡ m) ⊎ (n < m)
+up_to m n lt = grind arith
+
 loosened : (m n : ℕ) (ts left : List Lexeme) (e : Expression) → (n ≡ m) ⊎ (n < m) → IsExpression (rank_at m) ts e left
     → IsExpression (rank_at n) ts e left
 loosened m n ts left e (inl same) d = subst (λ k. IsExpression (rank_at k) ts e left) (sym same) d
 loosened zero n ts left e (inr lt) d = absurd (omega arith)
-loosened (suc m) n ts left e (inr lt) d = loosened m n ts left e (at_or_less n m lt) (looser m ts left e d) where
-  at_or_less : (n m : ℕ) → n < suc m → (n ≡ m) ⊎ (n < m)
-  at_or_less n m lt = grind arith
+loosened (suc m) n ts left e (inr lt) d = loosened m n ts left e (up_to m n lt) (looser m ts left e d)
 
 -- what stands alone is of each rank
 from_alone : (n : ℕ) (ts left : List Lexeme) (e : Expression) → IsExpression alone ts e left → IsExpression (rank_at n) ts e left
 from_alone n ts left e d = loosened (suc (suc (suc (suc (suc (suc n)))))) n ts left e (inr (omega arith)) d
 
 -- a chain is of the ranks below its level, and its operands are of the rank at it
-up_to : (m n : ℕ) → n < suc m → (n ≡ m) ⊎ (n < m)
-up_to m n lt = grind arith
-
 chain_loosened : (level : Level) (n : ℕ) (ts left : List Lexeme) (e : Expression) → n < chain_level level → IsExpression (chain level) ts e left
     → IsExpression (rank_at n) ts e left
 chain_loosened Or n ts left e lt d = loosened 0 n ts left e (up_to 0 n lt) d

@@ -1,8 +1,8 @@
 -- A tree that tokens of a text derive has a canonical text.
-use Rattle.std.proofs.Common.{◌≡◌, ℕ, ◌==◌, cond, Bool, true, false, Option, Some, ℤ, List, [], ◌∷◌, refl, subst}
+use Rattle.std.proofs.Common.{◌≡◌, Bool, Option, Some, ℤ, List, [], ◌∷◌, refl, subst}
 use Rattle.std.specs.List.{AllByRecursion}
 use Rattle.liszt_lexer.specs.declared.token.TokenKind.{TokenKind}
-use Rattle.liszt_lexer.specs.declared.token.TokenKind.TheVariants.{Name as NameToken, Number as NumberToken, Symbol}
+use Rattle.liszt_lexer.specs.declared.token.TokenKind.TheVariants.{Name as NameToken, Number as NumberToken}
 use Rattle.liszt_lexer.proofs.Spellings.{IsSpelling}
 use Rattle.liszt_lexer.proofs.Stops.{IsSmall, number_is_small}
 use Rattle.liszt_tree.specs.declared.tree.Level.{Level}
@@ -10,7 +10,8 @@ use Rattle.liszt_tree.specs.declared.tree.Level.TheVariants.{Or, And, Sum, Produ
 use Rattle.liszt_tree.specs.declared.tree.Sign.{Sign}
 use Rattle.liszt_tree.specs.declared.tree.Sign.TheVariants as sign
 use Rattle.liszt_tree.specs.Tree.{Expression, Links, Statement, Body, MainItem, Main}
-use Rattle.liszt_parser.specs.Grammar.{Lexeme, Rank, look_up, at_symbol, sign_of, IsExpression, one_operand, chained, one_sum, compared, no_prefix, negated, denied, number, name, field, call, towards, in_brackets, IsLinks, no_more_links, linked, IsBracketed, bracketed, Closes, by_semicolon, by_brace, by_end, IsDeclared, is_declared, IsTarget, no_target, target, IsStatement, var, val, assign, if, while, for, IsBody, no_statements, statements, IsBlock, block, IsElse, no_else, else, IsItem, main_field, main_var, main_assign, main_if, main_while, main_for, print, IsMain, no_items, items, IsMainBlock, main_block, IsMainElse, no_main_else, main_else}
+use Rattle.liszt_parser.specs.Grammar.{Lexeme, Rank, sign_of, IsExpression, one_operand, chained, one_sum, compared, no_prefix, negated, denied, number, name, field, call, towards, in_brackets, IsLinks, no_more_links, linked, IsBracketed, bracketed, Closes, by_semicolon, by_brace, by_end, IsDeclared, is_declared, IsTarget, no_target, target, IsStatement, var, val, assign, if, while, for, IsBody, no_statements, statements, IsBlock, block, IsElse, no_else, else, IsItem, main_field, main_var, main_assign, main_if, main_while, main_for, print, IsMain, no_items, items, IsMainBlock, main_block, IsMainElse, no_main_else, main_else}
+use Rattle.liszt_parser.proofs.RoundTripTables.{table_symbol}
 use Rattle.liszt_parser.proofs.RoundTripWords.{sign_token, IsWritable, AreWritable, IsWritableTarget, IsElseOf, IsMainElseOf, IsWritableStatement, IsWritableBody, IsWritableItem, IsWritableMain}
 
 -- tokens whose bytes spell them
@@ -23,28 +24,14 @@ named t is known = subst (λ k. IsSpelling k t.bytes) is known
 small : (t : Lexeme) (n : ℤ) → t.kind ≡ NumberToken n → IsSpelling t.kind t.bytes → IsSmall n
 small t n is known = let spelled : IsSpelling (NumberToken n) t.bytes = subst (λ k. IsSpelling k t.bytes) is known in number_is_small t.bytes n spelled.is
 
--- what holds of all entries of a table holds of one that is found in it
-found : {A : Type 0} (P : A → Type 0) (table : List (ℕ × A)) (place : ℕ) (x : A) → AllByRecursion (λ entry. P entry.1) table
-    → look_up table place ≡ Some x → P x
-found P [] place x all e = cc
-found {A} P (entry ∷ table) place x all e = go (entry.0 == place) e (found P table place x all.1) where
-  go : (b : Bool) → cond b (Some entry.1) (look_up table place) ≡ Some x → (look_up table place ≡ Some x → P x) → P x
-  go true e more = let same : entry.1 ≡ x = cc in subst P same all.0
-  go false e more = more e
-
-symbol_found : {A : Type 0} (P : A → Type 0) (table : List (ℕ × A)) (kind : TokenKind) (x : A) → AllByRecursion (λ entry. P entry.1) table
-    → at_symbol table kind ≡ Some x → P x
-symbol_found P table (Symbol place) x all e = found P table place x all e
-symbol_found P table _ x all e = cc
-
 -- an operator of a level is the one that its token stands for there
 sign_found : (level : Level) (kind : TokenKind) (s : Sign) → sign_of level kind ≡ Some s → sign_of level (sign_token s) ≡ Some s
-sign_found Or kind s e = symbol_found (λ s. sign_of Or (sign_token s) ≡ Some s) ((15, sign.Or) ∷ []) kind s (refl, tt) e
-sign_found And kind s e = symbol_found (λ s. sign_of And (sign_token s) ≡ Some s) ((14, sign.And) ∷ []) kind s (refl, tt) e
+sign_found Or kind s e = table_symbol (λ kind s. sign_of Or (sign_token s) ≡ Some s) ((15, sign.Or) ∷ []) kind s (refl, tt) e
+sign_found And kind s e = table_symbol (λ kind s. sign_of And (sign_token s) ≡ Some s) ((14, sign.And) ∷ []) kind s (refl, tt) e
 sign_found Sum kind s e =
-    symbol_found (λ s. sign_of Sum (sign_token s) ≡ Some s) ((16, sign.Plus) ∷ (17, sign.Minus) ∷ []) kind s (refl, (refl, tt)) e
+    table_symbol (λ kind s. sign_of Sum (sign_token s) ≡ Some s) ((16, sign.Plus) ∷ (17, sign.Minus) ∷ []) kind s (refl, (refl, tt)) e
 sign_found Product kind s e =
-    symbol_found (λ s. sign_of Product (sign_token s) ≡ Some s) ((18, sign.Times) ∷ (19, sign.Over) ∷ (20, sign.Rest) ∷ []) kind s
+    table_symbol (λ kind s. sign_of Product (sign_token s) ≡ Some s) ((18, sign.Times) ∷ (19, sign.Over) ∷ (20, sign.Rest) ∷ []) kind s
     (refl, (refl, (refl, tt))) e
 
 -- EXPRESSIONS
