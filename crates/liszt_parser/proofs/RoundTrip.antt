@@ -8,7 +8,7 @@ use Rattle.liszt_base.specs.declared.answers.Place.{Place}
 use Rattle.liszt_base.specs.declared.answers.ProgramFault.{ProgramFault}
 use Rattle.liszt_base.specs.declared.answers.ProgramWhat.TheVariants.{Big}
 use Rattle.liszt_lexer.specs.declared.token.Token.{Token}
-use Rattle.liszt_lexer.specs.Lexer.{tokens_of, IsSpelledIn}
+use Rattle.liszt_lexer.specs.Lexer.{tokens_of, bytes_of, IsSpelledIn}
 use Rattle.liszt_lexer.proofs.Findings.{all_tokens_spelled}
 use Rattle.liszt_lexer.proofs.Spellings.{spelling, ComesTo, comes}
 use Rattle.liszt_tree.specs.Canonical.{canonical}
@@ -42,7 +42,8 @@ place_at (t ∷ tokens) (suc n) = place_at tokens n
 as_placed : (text : List ℕ) (tokens : List Token) → lexemes text tokens ≡ placed (place_at tokens) (map (spelling text) tokens)
 unfolding place_at
 as_placed text [] = refl
-as_placed text (t ∷ tokens) = ap (λ (ts : List Lexeme). record { kind = t.kind; place = t.place; bytes = (spelling text t).bytes } ∷ ts) (as_placed text tokens)
+as_placed text (t ∷ tokens) =
+    ap (λ (ts : List Lexeme). record { kind = t.kind; place = t.place; bytes = bytes_of text t } ∷ ts) (as_placed text tokens)
 
 -- THE CANONICAL TEXT comes to the words of its tree,
 canonical_words : (text : List ℕ) (tokens : List Token) (tree : Main) → tokens_of text ≡ Ok tokens → Derives (lexemes text tokens) tree
