@@ -7,3 +7,5 @@ pub mod Numbers
 pub mod PieceList
 pub mod Places
 pub mod Rest
+pub mod Spellings
+pub mod Stops

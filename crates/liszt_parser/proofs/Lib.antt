@@ -8,4 +8,15 @@ pub mod OneStatement
 pub mod OneTree
 pub mod PlainLaws
 pub mod Programs
+pub mod RoundTrip
+pub mod RoundTripDeep
+pub mod RoundTripFronts
+pub mod RoundTripKinds
+pub mod RoundTripSegments
+pub mod RoundTripShallow
+pub mod RoundTripTables
+pub mod RoundTripText
+pub mod RoundTripTree
+pub mod RoundTripWords
+pub mod RoundTripWritable
 pub mod Sorts

@@ -1,11 +1,15 @@
 //! Laws of the definitions, each the contract of a function that does nothing.
 
-ghost use Rattle.std.specs.Prelude.{◌≡◌, ◌↔◌, ℕ, ◌≤◌, List, Option, None, length};
+ghost use Rattle.std.specs.Prelude.{◌≡◌, ◌↔◌, ℕ, ◌≤◌, List, Option, None, Ok, Err, length};
 ghost use Rattle.liszt_base.specs.declared.answers.Place.{Place};
 ghost use Rattle.liszt_base.specs.declared.answers.ProgramFault.{ProgramFault};
-ghost use Rattle.liszt_parser.specs.Grammar.{Lexeme, Derives};
+ghost use Rattle.liszt_base.specs.declared.answers.ProgramWhat.TheVariants.{Big};
+ghost use Rattle.liszt_lexer.specs.Lexer.{tokens_of};
+ghost use Rattle.liszt_lexer.specs.declared.token.Token.{Token};
+ghost use Rattle.liszt_parser.specs.Grammar.{Lexeme, lexemes, Derives};
 ghost use Rattle.liszt_parser.specs.ParseFault.{IsParseFault, IsShallow};
-ghost use Rattle.liszt_tree.specs.Tree.{Main, main_nodes};
+ghost use Rattle.liszt_tree.specs.Canonical.{canonical};
+ghost use Rattle.liszt_tree.specs.Tree.{Main, Same, main_nodes};
 ghost use Rattle.liszt_parser.specs.declared.plain.Plain.{Plain};
 ghost use Rattle.liszt_parser.specs.PlainProgram.{IsPlainProgram};
 
@@ -28,4 +32,17 @@ pub fn few_nodes()
 pub fn one_fault()
     ensures one { (ts : List Lexeme) (ending : Place) (fault other : Option ProgramFault) → IsParseFault ts ending fault → IsParseFault ts ending other → fault ≡ other }
     ensures none { (ts : List Lexeme) (ending : Place) → IsParseFault ts ending None ↔ ((tree : Main) × Derives ts tree × IsShallow ts (length ts)) }
+{}
+
+/// The canonical text of a tree that the tokens of a text derive reads back: its tokens derive that tree, up to places, it has
+/// tokens unless they are too many, and none of them is deeper than 64 where none of the first text was.
+pub fn canonical_reads_back()
+    ensures derives { (text : List ℕ) (tokens : List Token) (tree : Main) → tokens_of text ≡ Ok tokens → Derives (lexemes text tokens) tree
+        → (tokens' : List Token) → tokens_of (canonical tree) ≡ Ok tokens'
+        → (tree' : Main) × Derives (lexemes (canonical tree) tokens') tree' × Same tree' tree }
+    ensures fails_big_only { (text : List ℕ) (tokens : List Token) (tree : Main) → tokens_of text ≡ Ok tokens → Derives (lexemes text tokens) tree
+        → (fault : ProgramFault) → tokens_of (canonical tree) ≡ Err fault → fault.what ≡ Big }
+    ensures no_deeper { (text : List ℕ) (tokens : List Token) (tree : Main) → tokens_of text ≡ Ok tokens → Derives (lexemes text tokens) tree
+        → IsShallow (lexemes text tokens) (length (lexemes text tokens)) → (tokens' : List Token) → tokens_of (canonical tree) ≡ Ok tokens'
+        → IsShallow (lexemes (canonical tree) tokens') (length (lexemes (canonical tree) tokens')) }
 {}
