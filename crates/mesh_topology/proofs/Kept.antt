@@ -1,16 +1,15 @@
 -- The tables of a mesh are those of the definitions, as they are built.
 use Rattle.std.proofs.Common.{◌≡◌, ℕ, ◌+◌, ◌<◌, arith, List, length, flat_map, refl, sym, subst}
 use Rattle.std.specs.List.{AllZip}
-use Rattle.liszt_base.specs.Corners.{IsMesh}
 use Rattle.liszt_base.specs.MeshLists.{MeshLists}
 use Rattle.liszt_base.specs.declared.elements.Kind.{Kind}
 use Rattle.liszt_base.specs.declared.mesh.RawCell.{RawCell}
 use Rattle.mesh_topology.specs.Choices.{choices, first_of, AreStarts, IsAscending, IsIndexed, IsSmallTable, IsTableOf}
-use Rattle.mesh_topology.specs.Elements.{corner_lists, elements, count, corners, HasCorners}
+use Rattle.mesh_topology.specs.Elements.{elements, count, corners, HasCorners}
 use Rattle.mesh_topology.specs.Tables.{IsSmallMesh}
 use Rattle.mesh_topology.proofs.Ranked.{ordered}
 use Rattle.mesh_topology.proofs.Sets.{member_at}
-use Rattle.mesh_topology.proofs.Near.{AreRows, are_rows, rising_is, table_is}
+use Rattle.mesh_topology.proofs.Near.{are_rows, rising_is, table_is}
 
 -- the table of the choices from the rows of all cells
 pub elements_are : (mesh : MeshLists) → IsSmallMesh mesh → (kind : Kind) (size : ℕ) → HasCorners kind size → (cells : List RawCell) (rows read table : List (List ℕ))
@@ -24,10 +23,6 @@ pub small_table : (mesh : MeshLists) → IsSmallMesh mesh → (kind : Kind) (siz
 small_table mesh small kind size h table e =
     let all : IsSmallTable (elements mesh kind) = record { few = small.fits kind; ordered = ordered mesh kind size h } in
     subst (λ t. IsSmallTable t) (sym e) all
-
--- the rows of all cells
-pub table_rows : (mesh : MeshLists) → IsMesh (length mesh.points) (corner_lists mesh) → (rows read : List (List ℕ)) → read ≡ rows → AllZip IsAscending mesh.cells rows → AreRows mesh read
-table_rows mesh is rows read e all = subst (λ r. AreRows mesh r) (sym e) (are_rows mesh is rows all)
 
 -- it can be searched by where its sets start
 pub indexed : (mesh : MeshLists) → IsSmallMesh mesh → (kind : Kind) (size : ℕ) → HasCorners kind size → 0 < size → (made used : List (List ℕ)) (starts read : List ℕ) (n : ℕ)

@@ -16,3 +16,6 @@ pub mod Sets
 pub mod Sides
 pub mod Turned
 pub mod Uppers
+pub mod Packed
+pub mod Begun
+pub mod Holders

@@ -1,7 +1,7 @@
 -- The tables of what lies in each element are those of the definitions.
 use Rattle.std.proofs.Common.{◌≡◌, ℕ, ◌<◌, ◌≤◌, true, List, [], length, get_or, refl, sym, ap, subst, ◌∙◌, arith, ltb-true, nat_lt}
 use Rattle.std.specs.List.{All, AllZip}
-use Rattle.std.proofs.lemmas.List.{ext_get_or, get_or-map, get_or_default, length-map}
+use Rattle.std.proofs.lemmas.List.{ext_get_or, get_or-map, length-map}
 use Rattle.liszt_base.specs.Corners.{includes, are_different, IsMesh}
 use Rattle.liszt_base.specs.MeshLists.{MeshLists}
 use Rattle.liszt_base.specs.declared.elements.Kind.{Kind}
@@ -9,9 +9,8 @@ use Rattle.liszt_base.specs.declared.elements.Kind.TheVariants.{Vertex, Edge, Fa
 use Rattle.mesh_topology.specs.Choices.{choices, AreRanks, HasChoices, IsAscending}
 use Rattle.mesh_topology.specs.Elements.{numbers, corner_lists, elements, count, corners, one_includes_other, is_incident, near, HasCorners}
 use Rattle.mesh_topology.specs.Tables.{near_all}
-use Rattle.mesh_topology.proofs.Sets.{Member, all_at, any_found, member_at, member_contained, contained_member, included, includes_by}
+use Rattle.mesh_topology.proofs.Sets.{Member, all_at, any_found, member_at, member_contained, contained_member, included}
 use Rattle.mesh_topology.proofs.Ranked.{element_is}
-use Rattle.mesh_topology.proofs.Sides.{same_test}
 use Rattle.mesh_topology.proofs.FaceEdges.{placed}
 use Rattle.mesh_topology.proofs.Chosen.{Rises, choice_is}
 use Rattle.mesh_topology.proofs.Listed.{zip_at, zip_long}
@@ -83,19 +82,6 @@ face_has mesh is faces edges e f = subst (λ fs. All (HasChoices 2 edges) fs) (s
       let out = λ (x : ℕ) (k : Member x face). subst (λ cs. Member x cs) (sym p.2) (included one.0 face x one.2 k) in
       contained_member (elements mesh Edge) set (in_cell mesh is p.0 p.1 Edge 2 refl face set choice out)
 
--- all choices of a cell's corners are elements
-pub cell_has : (mesh : MeshLists) → IsMesh (length mesh.points) (corner_lists mesh) → (rows : List (List ℕ)) → AreRows mesh rows → (kind : Kind) (size : ℕ) → HasCorners kind size
-    → (table : List (List ℕ)) → table ≡ elements mesh kind → All (HasChoices size table) rows
-cell_has mesh is rows are kind size h table e = subst (λ t. All (HasChoices size t) rows) (sym e) has where
-  has : All (HasChoices size (elements mesh kind)) rows
-  has id d l set c =
-      let k : id < count mesh Cell = omega (arith, are.long) in
-      let r = are.row id k in
-      let same : get_or rows id d ≡ get_or rows id [] = get_or_default rows id d [] l in
-      let m = subst (λ row. Member set (choices size row)) same (member_contained (choices size (get_or rows id d)) set c) in
-      let choice = choice_is size (get_or rows id []) set r.rises m in
-      contained_member (elements mesh kind) set (in_cell mesh is id k kind size h (get_or rows id []) set choice r.out)
-
 -- the ids of a face's edges
 pub face_edges : (mesh : MeshLists) (faces edges rows : List (List ℕ)) → faces ≡ elements mesh Face → edges ≡ elements mesh Edge
     → AllZip (λ corners ids. AreRanks edges (choices 2 corners) ids) faces rows → rows ≡ near_all mesh Face Edge
@@ -113,30 +99,3 @@ face_edges mesh faces edges rows e f all = near_all_is mesh Face Edge rows long 
     where
       test : are_different (corners mesh Face id) ≡ true → length (corners mesh Face id) ≡ 3 → (y : ℕ) → y < count mesh Edge → is_incident mesh Face id Edge y ≡ includes (corners mesh Face id) (corners mesh Edge y)
       test d three y k = let g = rising_is mesh Edge 2 refl y k in more_left (corners mesh Face id) (corners mesh Edge y) d (omega (arith, three, g.size_is))
-
--- the same corners in another order include the same
-same_includes : (cs row set : List ℕ) → ((x : ℕ) → Member x row → Member x cs) → ((x : ℕ) → Member x cs → Member x row) → includes cs set ≡ includes row set
-same_includes cs row set out back =
-    same_test (includes cs set) (includes row set) (λ i. includes_by row set (λ x m. back x (included cs set x i m))) (λ i. includes_by cs set (λ x m. out x (included row set x i m)))
-
--- the ids of a cell's edges, or of its faces
-pub cell_ranks : (mesh : MeshLists) → IsMesh (length mesh.points) (corner_lists mesh) → (cells : List (List ℕ)) → AreRows mesh cells → (kind : Kind) (size : ℕ) → HasCorners kind size → size < 4
-    → (table rows : List (List ℕ)) → table ≡ elements mesh kind → AllZip (λ corners ids. AreRanks table (choices size corners) ids) cells rows
-    → ((id y : ℕ) → is_incident mesh Cell id kind y ≡ one_includes_other (corners mesh Cell id) (corners mesh kind y)) → rows ≡ near_all mesh Cell kind
-cell_ranks mesh is cells are kind size h few table rows e all test = near_all_is mesh Cell kind rows long at where
-  long : length rows ≡ count mesh Cell
-  long = sym (zip_long (λ corners ids. AreRanks table (choices size corners) ids) cells rows all) ∙ are.long
-
-  at : (id : ℕ) → id < count mesh Cell → get_or rows id [] ≡ near mesh Cell id kind
-  at id l =
-      let c = cell_is mesh is id l in
-      let r = are.row id l in
-      let z = zip_at (λ corners ids. AreRanks table (choices size corners) ids) cells rows id [] [] all (omega (arith, are.long)) in
-      let y = subst (λ t. AreRanks t (choices size (get_or cells id [])) (get_or rows id [])) e z in
-      ranks_kept mesh kind size h (get_or cells id []) (get_or rows id []) r.rises y (is_incident mesh Cell id kind) (same c.1 c.0 r.out r.back)
-    where
-      same : are_different (corners mesh Cell id) ≡ true → length (corners mesh Cell id) ≡ 4 → ((x : ℕ) → Member x (get_or cells id []) → Member x (corners mesh Cell id))
-          → ((x : ℕ) → Member x (corners mesh Cell id) → Member x (get_or cells id [])) → (y : ℕ) → y < count mesh kind → is_incident mesh Cell id kind y ≡ includes (get_or cells id []) (corners mesh kind y)
-      same d four out back y k =
-          let g = rising_is mesh kind size h y k in
-          test id y ∙ (more_left (corners mesh Cell id) (corners mesh kind y) d (omega (arith, four, g.size_is)) ∙ same_includes (corners mesh Cell id) (get_or cells id []) (corners mesh kind y) out back)

@@ -1,13 +1,13 @@
 -- Rows turned round: for each id the places of the rows that have it.
-use Rattle.std.proofs.Common.{◌≡◌, ◌⊎◌, ℕ, zero, suc, ◌+◌, ◌-◌, ◌<◌, true, false, cond, List, [], ◌∷◌, ◌++◌, length, set, take, get_or, filter, AllPairs, refl, sym, ap, subst, ◌∙◌, inl, inr, arith}
+use Rattle.std.proofs.Common.{◌≡◌, ◌⊎◌, ℕ, zero, suc, ◌+◌, ◌-◌, ◌<◌, ◌≤◌, ◌^◌, Bool, true, false, cond, List, [], ◌∷◌, ◌++◌, length, set, take, get_or, filter, map, replicate, All, AllPairs, refl, sym, ap, subst, ◌∙◌, inl, inr, arith}
 use Rattle.std.specs.List.{range_with_len}
 use Rattle.std.proofs.lemmas.Bool.{cases_eq, false_from_ne_true}
-use Rattle.std.proofs.lemmas.List.{append-nil, ext_get_or, get_or-map, get_or-set_same, get_or-set_other, get_or-take, length-map, length-set, length-take-le, take_more}
+use Rattle.std.proofs.lemmas.List.{append-nil, ext_get_or, get_or-map, get_or-replicate, get_or_default, get_or-set_same, get_or-set_other, get_or-take, length-map, length-replicate, length-set, length-take-le, length_push, take_more}
 use Rattle.std.proofs.lemmas.List.Elements.{filter-append}
 use Rattle.liszt_base.specs.Corners.{is_in}
 use Rattle.mesh_topology.specs.Elements.{numbers}
-use Rattle.mesh_topology.specs.Incidence.{turned, IsAdded, IsTurnedSoFar}
-use Rattle.mesh_topology.proofs.Sets.{Member, in_member, member_in, member_right, member_left, member_parted}
+use Rattle.mesh_topology.specs.Incidence.{turned, AreDegreesSoFar, IsChanged, IsTurnedSoFar}
+use Rattle.mesh_topology.proofs.Sets.{Member, in_member, member_at, member_in, member_right, member_left, member_parted}
 use Rattle.mesh_topology.proofs.Sides.{same_test}
 use Rattle.mesh_topology.proofs.FaceEdges.{placed}
 use Rattle.mesh_topology.proofs.Near.{long_numbers, at_numbers}
@@ -33,25 +33,32 @@ not_before row i l up = false_from_ne_true (is_in (take i row) (get_or row i 0))
       let m = up p.0 i 0 k l in
       omega arith
 
--- an id is added to one list more
-pub added_more : (row : List ℕ) (i id : ℕ) (old mid : List (List ℕ)) (new : List ℕ) → i < length row → AllPairs (λ x y. x < y) row → get_or row i 0 < length old
-    → IsAdded (take i row) id old mid → new ≡ get_or mid (get_or row i 0) [] ++ id ∷ [] → IsAdded (take (i + 1) row) id old (set mid (get_or row i 0) new)
-added_more row i id old mid new l up below so is = record { long = length-set mid (get_or row i 0) new ∙ so.long; at = at } where
+-- what a row's next id names is as it was
+pub unchanged : {A : Type 0} (d : A) (change : A → A) (row : List ℕ) (i : ℕ) (old mid : List A) → i < length row → AllPairs (λ x y. x < y) row → get_or row i 0 < length old
+    → IsChanged d change (take i row) old mid → get_or mid (get_or row i 0) d ≡ get_or old (get_or row i 0) d
+unchanged d change row i old mid l up below so =
+    so.at (get_or row i 0) below ∙ ap (λ b. cond b (change (get_or old (get_or row i 0) d)) (get_or old (get_or row i 0) d)) (not_before row i l up)
+
+-- one item more is changed
+pub changed_more : {A : Type 0} (d : A) (change : A → A) (row : List ℕ) (i : ℕ) (old mid : List A) (new : A) → i < length row → AllPairs (λ x y. x < y) row → get_or row i 0 < length old
+    → IsChanged d change (take i row) old mid → new ≡ change (get_or mid (get_or row i 0) d) → IsChanged d change (take (i + 1) row) old (set mid (get_or row i 0) new)
+changed_more d change row i old mid new l up below so is = record { long = length-set mid (get_or row i 0) new ∙ so.long; at = at } where
   here : get_or row i 0 < length mid
   here = omega (arith, so.long)
 
-  at : (y : ℕ) → y < length old → get_or (set mid (get_or row i 0) new) y [] ≡ get_or old y [] ++ cond (is_in (take (i + 1) row) y) (id ∷ []) []
+  at : (y : ℕ) → y < length old → get_or (set mid (get_or row i 0) new) y d ≡ cond (is_in (take (i + 1) row) y) (change (get_or old y d)) (get_or old y d)
   at y m = elim (cases_eq y (get_or row i 0)) [
     | inl e ↦
         let one = get_or row i 0 in
-        let first : get_or (set mid one new) one [] ≡ get_or mid one [] ++ id ∷ [] = get_or-set_same mid one new [] here ∙ is in
-        let second : get_or mid one [] ≡ get_or old one [] = so.at one below ∙ (ap (λ b. get_or old one [] ++ cond b (id ∷ []) []) (not_before row i l up) ∙ append-nil (get_or old one [])) in
+        let first : get_or (set mid one new) one d ≡ change (get_or mid one d) = get_or-set_same mid one new d here ∙ is in
+        let second : get_or mid one d ≡ get_or old one d = unchanged d change row i old mid l up below so in
         let third : is_in (take (i + 1) row) one ≡ true = ap (λ xs. is_in xs one) (take_more row i 0 l) ∙ is_in_last (take i row) one in
-        let all : get_or (set mid one new) one [] ≡ get_or old one [] ++ cond (is_in (take (i + 1) row) one) (id ∷ []) [] = first ∙ (ap (λ xs. xs ++ id ∷ []) second ∙ ap (λ b. get_or old one [] ++ cond b (id ∷ []) []) (sym third)) in
-        subst (λ v. get_or (set mid (get_or row i 0) new) v [] ≡ get_or old v [] ++ cond (is_in (take (i + 1) row) v) (id ∷ []) []) (sym e) all
+        let all : get_or (set mid one new) one d ≡ cond (is_in (take (i + 1) row) one) (change (get_or old one d)) (get_or old one d)
+        = first ∙ (ap change second ∙ ap (λ b. cond b (change (get_or old one d)) (get_or old one d)) (sym third)) in
+        subst (λ v. get_or (set mid (get_or row i 0) new) v d ≡ cond (is_in (take (i + 1) row) v) (change (get_or old v d)) (get_or old v d)) (sym e) all
     | inr ne ↦
         let same : is_in (take (i + 1) row) y ≡ is_in (take i row) y = ap (λ xs. is_in xs y) (take_more row i 0 l) ∙ is_in_more (take i row) (get_or row i 0) y ne in
-        get_or-set_other mid (get_or row i 0) y new [] ne ∙ (so.at y m ∙ ap (λ b. get_or old y [] ++ cond b (id ∷ []) []) (sym same))
+        get_or-set_other mid (get_or row i 0) y new d ne ∙ (so.at y m ∙ ap (λ b. cond b (change (get_or old y d)) (get_or old y d)) (sym same))
   ]
 
 -- a number more
@@ -70,15 +77,83 @@ one_more n = ap (λ m. range_with_len 0 m) (less n) ∙ (numbers_more 0 n ∙ bo
   both : range_with_len 0 n ++ (0 + n) ∷ [] ≡ numbers 0 n ++ n ∷ []
   both = let e : n ≡ n - 0 = omega arith in let f : 0 + n ≡ n = omega arith in ap (λ m. range_with_len 0 m ++ (0 + n) ∷ []) e ∙ ap (λ v. numbers 0 n ++ v ∷ []) f
 
+-- the places of the first rows that have an id
+abbrev with : List (List ℕ) → ℕ → ℕ → List ℕ
+with rows y n = filter (λ x. is_in (get_or rows x []) y) (numbers 0 n)
+
+with_more : (rows : List (List ℕ)) (y n : ℕ) → with rows y (n + 1) ≡ cond (is_in (get_or rows n []) y) (with rows y n ++ n ∷ []) (with rows y n)
+with_more rows y n =
+    let p = λ (x : ℕ). is_in (get_or rows x []) y in
+    ap (λ xs. filter p xs) (one_more n) ∙ (filter-append p (numbers 0 n) (n ∷ []) ∙ go (p n) (with rows y n))
+  where
+    go : (b : Bool) (front : List ℕ) → front ++ cond b (n ∷ []) [] ≡ cond b (front ++ n ∷ []) front
+    go true front = refl
+    go false front = append-nil front
+
+-- no rows
+pub turned_none : (rows : List (List ℕ)) (count : ℕ) (lists : List (List ℕ)) → lists ≡ replicate count [] → IsTurnedSoFar rows count 0 lists
+turned_none rows count lists is = record {
+  long = ap (λ xs. length xs) is ∙ length-replicate count [];
+  at = λ y l. ap (λ xs. get_or xs y []) is ∙ get_or-replicate count y [] [] l;
+}
+
 -- a row more
-pub turned_more : (rows : List (List ℕ)) (count id : ℕ) (mid new : List (List ℕ)) → IsTurnedSoFar rows count id mid → IsAdded (get_or rows id []) id mid new
+pub turned_more : (rows : List (List ℕ)) (count id : ℕ) (mid new : List (List ℕ)) → IsTurnedSoFar rows count id mid → IsChanged [] (λ list. list ++ id ∷ []) (get_or rows id []) mid new
     → IsTurnedSoFar rows count (id + 1) new
 turned_more rows count id mid new so added = record { long = added.long ∙ so.long; at = at } where
-  at : (y : ℕ) → y < count → get_or new y [] ≡ filter (λ x. is_in (get_or rows x []) y) (numbers 0 (id + 1))
+  at : (y : ℕ) → y < count → get_or new y [] ≡ with rows y (id + 1)
   at y l =
-      let p = λ (x : ℕ). is_in (get_or rows x []) y in
-      let last : filter p (numbers 0 (id + 1)) ≡ filter p (numbers 0 id) ++ cond (p id) (id ∷ []) [] = ap (λ xs. filter p xs) (one_more id) ∙ filter-append p (numbers 0 id) (id ∷ []) in
-      added.at y (omega (arith, so.long)) ∙ (ap (λ xs. xs ++ cond (p id) (id ∷ []) []) (so.at y l) ∙ sym last)
+      added.at y (omega (arith, so.long)) ∙ (ap (λ xs. cond (is_in (get_or rows id []) y) (xs ++ id ∷ []) xs) (so.at y l) ∙ sym (with_more rows y id))
+
+-- a row more is counted
+pub degrees_more : (rows : List (List ℕ)) (count id : ℕ) (mid new : List ℕ) → AreDegreesSoFar rows count id mid → IsChanged 0 (λ n. n + 1) (get_or rows id []) mid new
+    → AreDegreesSoFar rows count (id + 1) new
+degrees_more rows count id mid new so added = record { long = added.long ∙ so.long; at = at } where
+  go : (b : Bool) (front : List ℕ) → cond b (length front + 1) (length front) ≡ length (cond b (front ++ id ∷ []) front)
+  go true front = sym (length_push front id)
+  go false front = refl
+
+  at : (y : ℕ) → y < count → get_or new y 0 ≡ length (with rows y (id + 1))
+  at y l =
+      added.at y (omega (arith, so.long)) ∙ (ap (λ n. cond (is_in (get_or rows id []) y) (n + 1) n) (so.at y l) ∙ (go (is_in (get_or rows id []) y) (with rows y id) ∙ ap (λ xs. length xs) (sym (with_more rows y id))))
+
+-- no more rows have an id than there are
+few_with : (rows : List (List ℕ)) (y n : ℕ) → length (with rows y n) ≤ n
+few_with rows y zero = omega arith
+few_with rows y (suc n) =
+    let e : n + 1 ≡ suc n = omega arith in
+    subst (λ m. length (with rows y m) ≤ m) e (subst (λ xs. length xs ≤ n + 1) (sym (with_more rows y n)) (go (is_in (get_or rows n []) y) (with rows y n) (few_with rows y n)))
+  where
+    go : (b : Bool) (front : List ℕ) → length front ≤ n → length (cond b (front ++ n ∷ []) front) ≤ n + 1
+    go true front l = omega (arith, length_push front n)
+    go false front l = omega arith
+
+pub few_degrees : (rows : List (List ℕ)) (count done : ℕ) (degrees : List ℕ) → AreDegreesSoFar rows count done degrees → done < length rows → length rows < 2 ^ 32 → All (λ n. n + 1 < 2 ^ 32) degrees
+few_degrees rows count done degrees so l few k d m =
+    let e = so.at k (omega (arith, so.long)) in
+    let f = few_with rows k done in
+    let g : get_or degrees k d ≡ get_or degrees k 0 = get_or_default degrees k d 0 m in
+    omega arith
+
+-- as more rows are seen, more have an id
+with_grows : (rows : List (List ℕ)) (y n m : ℕ) → length (with rows y n) ≤ length (with rows y (n + m))
+with_grows rows y n zero = let e : n ≡ n + 0 = omega arith in subst (λ k. length (with rows y n) ≤ length (with rows y k)) e (omega arith)
+with_grows rows y n (suc m) =
+    let e : n + m + 1 ≡ n + suc m = omega arith in
+    subst (λ k. length (with rows y n) ≤ length (with rows y k)) e (subst (λ xs. length (with rows y n) ≤ length xs) (sym (with_more rows y (n + m))) (go (is_in (get_or rows (n + m) []) y) (with rows y (n + m)) (with_grows rows y n m)))
+  where
+    go : (b : Bool) (front : List ℕ) → length (with rows y n) ≤ length front → length (with rows y n) ≤ length (cond b (front ++ (n + m) ∷ []) front)
+    go true front l = omega (arith, length_push front (n + m))
+    go false front l = l
+
+-- where a row has an id, there is room for it
+room_with : (rows : List (List ℕ)) (y id : ℕ) → id < length rows → is_in (get_or rows id []) y ≡ true → length (with rows y id) < length (with rows y (length rows))
+room_with rows y id l h =
+    let e : id + 1 + (length rows - (id + 1)) ≡ length rows = omega arith in
+    let g = subst (λ n. length (with rows y (id + 1)) ≤ length (with rows y n)) e (with_grows rows y (id + 1) (length rows - (id + 1))) in
+    let f : with rows y (id + 1) ≡ with rows y id ++ id ∷ [] = with_more rows y id ∙ ap (λ b. cond b (with rows y id ++ id ∷ []) (with rows y id)) h in
+    let m : length (with rows y (id + 1)) ≡ length (with rows y id) + 1 = ap (λ xs. length xs) f ∙ length_push (with rows y id) id in
+    omega arith
 
 -- the lists of rows turned round
 pub turned_long : (rows : List (List ℕ)) (count : ℕ) → length (turned rows count) ≡ count
@@ -97,3 +172,29 @@ turned_all rows count id lists e so = ext_get_or [] lists (turned rows count) (s
   same y l =
       let m : y < count = omega (arith, so.long) in
       so.at y m ∙ (ap (λ k. filter (λ x. is_in (get_or rows x []) y) (numbers 0 k)) e ∙ sym (turned_at rows count y m))
+
+degree_at : (rows : List (List ℕ)) (count y : ℕ) → y < count → get_or (map (λ xs. length xs) (turned rows count)) y 0 ≡ length (with rows y (length rows))
+degree_at rows count y l = get_or-map (λ xs. length xs) (turned rows count) y [] 0 (omega (arith, turned_long rows count)) ∙ ap (λ xs. length xs) (turned_at rows count y l)
+
+-- all rows are counted
+pub degrees_all : (rows : List (List ℕ)) (count done : ℕ) (degrees : List ℕ) → done ≡ length rows → AreDegreesSoFar rows count done degrees → degrees ≡ map (λ xs. length xs) (turned rows count)
+degrees_all rows count done degrees e so = ext_get_or 0 degrees (map (λ xs. length xs) (turned rows count)) (so.long ∙ sym (length-map (turned rows count) (λ xs. length xs) ∙ turned_long rows count)) same where
+  same : (y : ℕ) → y < length degrees → get_or degrees y 0 ≡ get_or (map (λ xs. length xs) (turned rows count)) y 0
+  same y l =
+      let m : y < count = omega (arith, so.long) in
+      so.at y m ∙ (ap (λ n. length (with rows y n)) e ∙ sym (degree_at rows count y m))
+
+pub degrees_long : (rows : List (List ℕ)) (count : ℕ) → length (map (λ xs. length xs) (turned rows count)) ≡ count
+degrees_long rows count = length-map (turned rows count) (λ xs. length xs) ∙ turned_long rows count
+
+-- the lists that a row names have room
+pub rooms_for : (rows : List (List ℕ)) (count id : ℕ) (row : List ℕ) (lists : List (List ℕ)) (rooms : List ℕ) → IsTurnedSoFar rows count id lists → rooms ≡ map (λ xs. length xs) (turned rows count)
+    → id < length rows → get_or rows id [] ≡ row → All (λ y. y < count) row → All (λ y. length (get_or lists y []) < get_or rooms y 0) row
+rooms_for rows count id row lists rooms so is l e below k d m =
+    let y = get_or row k d in
+    let b : y < count = below k d m in
+    let has : is_in (get_or rows id []) y ≡ true = subst (λ r. is_in r y ≡ true) (sym e) (member_in row y (member_at row k d m)) in
+    let r = room_with rows y id l has in
+    let f = ap (λ xs. length xs) (so.at y b) in
+    let g = ap (λ xs. get_or xs y 0) is ∙ degree_at rows count y b in
+    omega arith

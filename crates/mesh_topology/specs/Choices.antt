@@ -1,5 +1,5 @@
 -- Choices of members of a list, and tables of them. Contracts of private functions cite these. This project's own.
-use Rattle.std.specs.Prelude.{◌≡◌, ◌↔◌, ℕ, ◌+◌, ◌≤◌, zero, suc, List, [], ◌∷◌, ◌++◌, ◌<◌, ◌^◌, map, length, slice_index, slice_index_or}
+use Rattle.std.specs.Prelude.{◌≡◌, ◌↔◌, ℕ, ◌+◌, ◌≤◌, zero, suc, List, [], ◌∷◌, ◌++◌, ◌<◌, ◌^◌, ◌==◌, Bool, map, length, slice_index, slice_index_or}
 use Rattle.std.specs.Cmp.Lexicographic.{slice_cmp}
 use Rattle.std.specs.List.{AllPairs, Contains}
 use Rattle.std.specs.List.Sorted.{IsNonDecreasing, IsPermutation}
@@ -45,6 +45,14 @@ pub record AreRanksSoFar (table sets : List (List ℕ)) (done : ℕ) (ids : List
 -- the first of the corners of a set
 abbrev pub first_of : List ℕ → ℕ
 first_of set = slice_index set 0
+
+abbrev pub begins_with : ℕ → List ℕ → Bool
+begins_with first set = first_of set == first
+
+-- the sets that begin with a number below a bound, each once, in lexicographic order
+pub record IsTableBelow (sets table : List (List ℕ)) (first : ℕ) : Type 0 where
+  pub ordered : AllPairs (λ x y. slice_cmp nat_cmp x y ≡ Less) table
+  pub members : (set : List ℕ) → Contains table set ↔ (Contains sets set × (first_of set < first))
 
 -- where the sets that begin with each of the first numbers start in a table
 pub record AreStarts (table : List (List ℕ)) (done : ℕ) (starts : List ℕ) : Type 0 where

@@ -1,3 +1,4 @@
+pub mod Buckets
 pub mod Choices
 pub mod Elements
 pub mod Incidence

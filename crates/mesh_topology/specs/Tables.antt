@@ -20,28 +20,28 @@ pub record IsSmallMesh (mesh : MeshLists) : Type 0 where
   pub is : IsMesh (length mesh.points) (corner_lists mesh)
   pub fits : (kind : Kind) → count mesh kind < 2 ^ 32
 
--- the tables of the corners of elements, ascending
+-- the tables of the corners of elements, ascending, and of the cells of vertices
 pub record AreSets (mesh : MeshLists) (t : CornerTables) : Type 0 where
   pub edges : t.edges.items ≡ elements mesh Edge
   pub faces : t.faces.items ≡ elements mesh Face
   pub cells : AllZip IsAscending mesh.cells t.cells.items
+  pub vertex_cells : t.vertex_cells ≡ near_all mesh Vertex Cell
 
--- these, and the tables of the elements that lie in each element
+-- these, and the tables of the edges of faces and of the cells of edges and faces
 pub record IsLower (mesh : MeshLists) (t : Lower) : Type 0 where
   pub sets : AreSets mesh t.sets
   pub face_edges : t.face_edges.items ≡ near_all mesh Face Edge
-  pub cell_edges : t.cell_edges.items ≡ near_all mesh Cell Edge
-  pub cell_faces : t.cell_faces.items ≡ near_all mesh Cell Face
+  pub edge_cells : t.edge_cells ≡ near_all mesh Edge Cell
+  pub face_cells : t.face_cells ≡ near_all mesh Face Cell
 
--- the tables of the elements in which each element lies, and of those beside it
+-- the tables of the other elements near each element, and of those beside it
 pub record IsUpper (mesh : MeshLists) (t : Upper) : Type 0 where
   pub vertex_vertices : t.vertex_vertices ≡ near_all mesh Vertex Vertex
   pub vertex_edges : t.vertex_edges ≡ near_all mesh Vertex Edge
   pub vertex_faces : t.vertex_faces ≡ near_all mesh Vertex Face
-  pub vertex_cells : t.vertex_cells ≡ near_all mesh Vertex Cell
   pub edge_faces : t.edge_faces ≡ near_all mesh Edge Face
-  pub edge_cells : t.edge_cells ≡ near_all mesh Edge Cell
-  pub face_cells : t.face_cells ≡ near_all mesh Face Cell
+  pub cell_edges : t.cell_edges ≡ near_all mesh Cell Edge
+  pub cell_faces : t.cell_faces ≡ near_all mesh Cell Face
   pub cell_cells : t.cell_cells ≡ near_all mesh Cell Cell
 
 -- all tables

@@ -52,7 +52,7 @@ pub fn place<const N: usize>(table: &[[u32; N]], set: &[u32; N]) -> Option<u32>
 }
 
 /// The first of the corners of a set, 0 where there is none.
-fn first_of<const N: usize>(set: &[u32; N]) -> u32
+pub fn first_of<const N: usize>(set: &[u32; N]) -> u32
     ensures { result ≡ first_of set.now }
 {
     match set.first() {

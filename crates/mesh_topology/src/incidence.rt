@@ -1,60 +1,61 @@
 //! Lists of ids for each element, turned round and joined.
 
-ghost use Rattle.std.specs.Prelude.{◌≡◌, ◌<◌, ◌++◌, [], IfOk, OnOk, length, replicate};
+ghost use Rattle.std.specs.Prelude.{◌≡◌, ◌+◌, ◌<◌, ◌^◌, [], ◌∷◌, ◌++◌, IfOk, OnOk, map, length, slice_index, slice_index_or};
 ghost use Rattle.std.specs.List.{All, AllPairs, filter};
-ghost use Rattle.mesh_topology.specs.Incidence.{turned, is_other, others_on, AreBeside, CanJoin, CanTurn, IsAdded, IsSetOf};
+ghost use Rattle.mesh_topology.specs.Incidence.{turned, is_other, others_on, AreBeside, CanJoin, CanTurn, IsChanged, IsSetOf};
 
-use liszt_base::{NoMemory, PlainList, PlainLists};
+use crate::buckets::Buckets;
+use liszt_base::{NoMemory, PlainLists};
 use std::alloc::Global;
 
-/// So many empty lists.
-fn empty_lists(alloc: Global, count: u32) -> Result<Vec<PlainList<u32>>, NoMemory>
-    ensures { IfOk result (λ lists. lists.items ≡ replicate count []) }
+/// Counts a row's ids.
+fn count_each(degrees: &mut [u32], row: &[u32])
+    requires below { All (λ y. y < length degrees.old) row.now }
+    requires rises { AllPairs (λ x y. x < y) row.now }
+    requires few { All (λ n. n + 1 < 2 ^ 32) degrees.old }
+    ensures { IsChanged 0 (λ n. n + 1) row.now degrees.old degrees.new }
 {
-    let mut lists = Vec::new(alloc);
-    for _ in 0..count {
-        lists.push(PlainList::new(alloc))?;
+    for y in row {
+        degrees[*y as usize] += 1;
     }
-    Ok(lists)
+}
+
+/// For each of so many ids how many rows have it.
+fn degrees(alloc: Global, rows: &PlainLists<u32>, count: u32) -> Result<Vec<u32>, NoMemory>
+    requires { CanTurn rows.now count }
+    ensures { IfOk result (λ degrees. degrees.items ≡ map length (turned rows.now count)) }
+{
+    let mut degrees = vec![in alloc; 0; count as usize]?;
+    for id in 0..rows.len() {
+        count_each(&mut degrees, rows.of(id));
+    }
+    Ok(degrees)
 }
 
 /// Adds an id at the end of the lists that a row names.
-fn add_to_each(lists: &mut Vec<PlainList<u32>>, row: &[u32], id: u32) -> Result<(), NoMemory>
-    requires below { All (λ y. y < length lists.old.items) row.now }
+fn add_to_each(lists: &mut Buckets, row: &[u32], id: u32)
+    requires below { All (λ y. y < length lists.old.lists) row.now }
     requires rises { AllPairs (λ x y. x < y) row.now }
-    ensures { OnOk result (IsAdded row.now id lists.old.items lists.new.items) }
+    requires room { All (λ y. length (slice_index_or lists.old.lists y []) < slice_index lists.old.rooms y) row.now }
+    ensures lists { IsChanged [] (λ list. list ++ id ∷ []) row.now lists.old.lists lists.new.lists }
+    ensures rooms { lists.new.rooms ≡ lists.old.rooms }
 {
     for y in row {
-        lists[*y as usize].push(id)?;
+        lists.push(*y, id);
     }
-    Ok(())
-}
-
-/// The lists one behind the other.
-fn flattened(alloc: Global, lists: &[PlainList<u32>]) -> Result<PlainLists<u32>, NoMemory>
-    ensures { IfOk result (λ all. all ≡ lists.now) }
-{
-    let mut all = PlainLists::new(alloc);
-    for list in lists {
-        all.push(list.as_slice())?;
-    }
-    Ok(all)
 }
 
 /// For each of so many ids the places of the rows that have it, ascending.
-pub fn turn<const N: usize>(
-    alloc: Global,
-    rows: &[[u32; N]],
-    count: u32,
-) -> Result<PlainLists<u32>, NoMemory>
+pub fn turn(alloc: Global, rows: &PlainLists<u32>, count: u32) -> Result<PlainLists<u32>, NoMemory>
     requires { CanTurn rows.now count }
     ensures { IfOk result (λ lists. lists ≡ turned rows.now count) }
 {
-    let mut lists = empty_lists(alloc, count)?;
-    for (id, row) in rows.iter().enumerate() {
-        add_to_each(&mut lists, row, id as u32)?;
+    let degrees = degrees(alloc, rows, count)?;
+    let mut lists = Buckets::new(alloc, degrees.as_slice())?;
+    for id in 0..rows.len() {
+        add_to_each(&mut lists, rows.of(id), id as u32);
     }
-    flattened(alloc, lists.as_slice())
+    lists.lists(alloc)
 }
 
 /// The rows as lists.
@@ -91,22 +92,22 @@ fn add_others(others: &mut Vec<u32>, list: &[u32], id: u32) -> Result<(), NoMemo
     Ok(())
 }
 
-/// The ids on the lists of a list, but one.
-fn beside(
-    alloc: Global,
+/// Leaves the ids on the lists of a list, but one.
+fn put_beside(
+    others: &mut Vec<u32>,
     id: u32,
     through: &[u32],
     back: &PlainLists<u32>,
-) -> Result<Vec<u32>, NoMemory>
+) -> Result<(), NoMemory>
     requires { All (λ by. by < length back.now) through.now }
-    ensures { IfOk result (λ others. IsSetOf (others_on id back.now through.now) others.items) }
+    ensures { OnOk result (IsSetOf (others_on id back.now through.now) others.new.items) }
 {
-    let mut others = Vec::new(alloc);
+    others.clear();
     for by in through {
-        add_others(&mut others, back.of(*by as usize), id)?;
+        add_others(others, back.of(*by as usize), id)?;
     }
-    make_set(&mut others);
-    Ok(others)
+    make_set(others);
+    Ok(())
 }
 
 /// For each id those on the lists of its list, but itself.
@@ -119,8 +120,9 @@ pub fn all_beside(
     ensures { IfOk result (AreBeside through.now back.now (length through.now)) }
 {
     let mut all = PlainLists::new(alloc);
+    let mut others = Vec::new(alloc);
     for id in 0..through.len() {
-        let others = beside(alloc, id as u32, through.of(id), back)?;
+        put_beside(&mut others, id as u32, through.of(id), back)?;
         all.push(others.as_slice())?;
     }
     Ok(all)

@@ -2,7 +2,9 @@
 //! with their laws, and the mesh whose tables keep them.
 #![tactic(auto)]
 
+mod buckets;
 mod cases;
+mod cells_of;
 mod corner_sets;
 mod incidence;
 pub mod laws;

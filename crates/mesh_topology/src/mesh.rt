@@ -121,7 +121,7 @@ impl Mesh {
         requires { f < count self.now Face }
         ensures { sides self.now f ≡ result.0 ∷ option_to_list result.1 }
     {
-        match self.upper.face_cells.of(f as usize) {
+        match self.lower.face_cells.of(f as usize) {
             [c] => (*c, None),
             [c, d, ..] => (*c, Some(*d)),
             [] => unreachable!(),
@@ -151,7 +151,7 @@ impl Mesh {
             Kind::Vertex => self.upper.vertex_vertices.of(v as usize),
             Kind::Edge => self.upper.vertex_edges.of(v as usize),
             Kind::Face => self.upper.vertex_faces.of(v as usize),
-            Kind::Cell => self.upper.vertex_cells.of(v as usize),
+            Kind::Cell => self.lower.sets.vertex_cells.of(v as usize),
         }
     }
 
@@ -164,7 +164,7 @@ impl Mesh {
             Kind::Vertex => &self.lower.sets.edges[e as usize],
             Kind::Edge => unreachable!(),
             Kind::Face => self.upper.edge_faces.of(e as usize),
-            Kind::Cell => self.upper.edge_cells.of(e as usize),
+            Kind::Cell => self.lower.edge_cells.of(e as usize),
         }
     }
 
@@ -177,7 +177,7 @@ impl Mesh {
             Kind::Vertex => &self.lower.sets.faces[f as usize],
             Kind::Edge => &self.lower.face_edges[f as usize],
             Kind::Face => unreachable!(),
-            Kind::Cell => self.upper.face_cells.of(f as usize),
+            Kind::Cell => self.lower.face_cells.of(f as usize),
         }
     }
 
@@ -187,8 +187,8 @@ impl Mesh {
     {
         match out {
             Kind::Vertex => &self.lower.sets.cells[c as usize],
-            Kind::Edge => &self.lower.cell_edges[c as usize],
-            Kind::Face => &self.lower.cell_faces[c as usize],
+            Kind::Edge => self.upper.cell_edges.of(c as usize),
+            Kind::Face => self.upper.cell_faces.of(c as usize),
             Kind::Cell => self.upper.cell_cells.of(c as usize),
         }
     }

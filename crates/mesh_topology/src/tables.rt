@@ -1,12 +1,15 @@
 //! The tables of a mesh.
 
-ghost use Rattle.std.specs.Prelude.{IfOk};
-ghost use Rattle.std.specs.List.{All, AllZip, flat_map};
+ghost use Rattle.std.specs.Prelude.{◌≡◌, ◌<◌, ◌++◌, IfOk, OnOk, length};
+ghost use Rattle.std.specs.List.{All, AllZip, filter, flat_map};
 ghost use Rattle.std.specs.List.Sorted.{IsNonDecreasing, IsPermutation};
-ghost use Rattle.mesh_topology.specs.Choices.{choices, AreRanks, HasChoices, IsAscending, IsIndexed, IsTableOf};
+ghost use Rattle.mesh_topology.specs.Choices.{begins_with, choices, AreRanks, HasChoices, IsAscending, IsIndexed, IsTableOf};
+ghost use Rattle.mesh_topology.specs.Incidence.{begun_in, AreCellsOfEach};
 
-use crate::corner_sets::{make_table, pairs_of_four, pairs_of_three, ranks, triples_of_four};
-use liszt_base::{NoMemory, RawCell};
+use crate::corner_sets::{
+    first_of, make_table, pairs_of_four, pairs_of_three, ranks, triples_of_four,
+};
+use liszt_base::{NoMemory, PlainLists, RawCell};
 use std::alloc::Global;
 
 /// Corners in ascending order.
@@ -30,28 +33,92 @@ pub fn cell_vertices(alloc: Global, cells: &[RawCell]) -> Result<Vec<[u32; 4]>, 
     Ok(rows)
 }
 
+/// Adds the sets that begin with a number.
+fn add_begun<const N: usize>(
+    begun: &mut Vec<[u32; N]>,
+    sets: &[[u32; N]],
+    first: u32,
+) -> Result<(), NoMemory>
+    ensures { OnOk result (begun.new.items ≡ begun.old.items ++ filter (begins_with first) sets.now) }
+{
+    for set in sets {
+        if first_of(set) == first {
+            begun.push(*set)?;
+        }
+    }
+    Ok(())
+}
+
+/// Leaves the pairs of corners of some cells that begin with a number, each once, in lexicographic order.
+fn put_pairs(
+    pairs: &mut Vec<[u32; 2]>,
+    cells: &[[u32; 4]],
+    ids: &[u32],
+    first: u32,
+) -> Result<(), NoMemory>
+    requires { All (λ id. id < length cells.now) ids.now }
+    ensures { OnOk result (IsTableOf (begun_in 2 cells.now first ids.now) pairs.new.items) }
+{
+    pairs.clear();
+    for id in ids {
+        add_begun(pairs, &pairs_of_four(cells[*id as usize]), first)?;
+    }
+    make_table(pairs);
+    Ok(())
+}
+
 /// The pairs of corners of cells, each once, in lexicographic order.
-pub fn edges(alloc: Global, cells: &[[u32; 4]]) -> Result<Vec<[u32; 2]>, NoMemory>
+pub fn edges(
+    alloc: Global,
+    cells: &[[u32; 4]],
+    vertex_cells: &PlainLists<u32>,
+) -> Result<Vec<[u32; 2]>, NoMemory>
+    requires { AreCellsOfEach cells.now vertex_cells.now }
     ensures { IfOk result (λ table. IsTableOf (flat_map (choices 2) cells.now) table.items) }
 {
+    let mut table = Vec::new(alloc);
     let mut pairs = Vec::new(alloc);
-    for corners in cells {
-        pairs.extend_from_slice(&pairs_of_four(*corners))?;
+    for v in 0..vertex_cells.len() {
+        put_pairs(&mut pairs, cells, vertex_cells.of(v), v as u32)?;
+        table.extend_from_slice(&pairs)?;
     }
-    make_table(&mut pairs);
-    Ok(pairs)
+    Ok(table)
+}
+
+/// Leaves the triples of corners of some cells that begin with a number, each once, in lexicographic order.
+fn put_triples(
+    triples: &mut Vec<[u32; 3]>,
+    cells: &[[u32; 4]],
+    ids: &[u32],
+    first: u32,
+) -> Result<(), NoMemory>
+    requires { All (λ id. id < length cells.now) ids.now }
+    ensures { OnOk result (IsTableOf (begun_in 3 cells.now first ids.now) triples.new.items) }
+{
+    triples.clear();
+    for id in ids {
+        add_begun(triples, &triples_of_four(cells[*id as usize]), first)?;
+    }
+    make_table(triples);
+    Ok(())
 }
 
 /// The triples of corners of cells, each once, in lexicographic order.
-pub fn faces(alloc: Global, cells: &[[u32; 4]]) -> Result<Vec<[u32; 3]>, NoMemory>
+pub fn faces(
+    alloc: Global,
+    cells: &[[u32; 4]],
+    vertex_cells: &PlainLists<u32>,
+) -> Result<Vec<[u32; 3]>, NoMemory>
+    requires { AreCellsOfEach cells.now vertex_cells.now }
     ensures { IfOk result (λ table. IsTableOf (flat_map (choices 3) cells.now) table.items) }
 {
+    let mut table = Vec::new(alloc);
     let mut triples = Vec::new(alloc);
-    for corners in cells {
-        triples.extend_from_slice(&triples_of_four(*corners))?;
+    for v in 0..vertex_cells.len() {
+        put_triples(&mut triples, cells, vertex_cells.of(v), v as u32)?;
+        table.extend_from_slice(&triples)?;
     }
-    make_table(&mut triples);
-    Ok(triples)
+    Ok(table)
 }
 
 /// The edges of each face.
@@ -68,42 +135,6 @@ pub fn face_edges(
     let mut rows = Vec::new(alloc);
     for corners in faces {
         rows.push(ranks(edges, starts, &pairs_of_three(*corners)))?;
-    }
-    Ok(rows)
-}
-
-/// The edges of each cell.
-pub fn cell_edges(
-    alloc: Global,
-    edges: &[[u32; 2]],
-    starts: &[usize],
-    cells: &[[u32; 4]],
-) -> Result<Vec<[u32; 6]>, NoMemory>
-    requires table { IsIndexed edges.now starts.now }
-    requires inside { All (HasChoices 2 edges.now) cells.now }
-    ensures { IfOk result (λ rows. AllZip (λ corners ids. AreRanks edges.now (choices 2 corners) ids) cells.now rows.items) }
-{
-    let mut rows = Vec::new(alloc);
-    for corners in cells {
-        rows.push(ranks(edges, starts, &pairs_of_four(*corners)))?;
-    }
-    Ok(rows)
-}
-
-/// The faces of each cell.
-pub fn cell_faces(
-    alloc: Global,
-    faces: &[[u32; 3]],
-    starts: &[usize],
-    cells: &[[u32; 4]],
-) -> Result<Vec<[u32; 4]>, NoMemory>
-    requires table { IsIndexed faces.now starts.now }
-    requires inside { All (HasChoices 3 faces.now) cells.now }
-    ensures { IfOk result (λ rows. AllZip (λ corners ids. AreRanks faces.now (choices 3 corners) ids) cells.now rows.items) }
-{
-    let mut rows = Vec::new(alloc);
-    for corners in cells {
-        rows.push(ranks(faces, starts, &triples_of_four(*corners)))?;
     }
     Ok(rows)
 }

@@ -1,4 +1,4 @@
-//! The tables of the elements in which each element of a mesh lies, and of those beside it.
+//! The tables of a mesh that are made of the lower ones.
 
 ghost use Rattle.std.specs.Prelude.{IfOk};
 ghost use Rattle.mesh_topology.specs.Tables.{IsLower, IsSmallMesh, IsUpper};
@@ -8,17 +8,16 @@ use crate::lower::Lower;
 use liszt_base::{NoMemory, PlainLists, RawMesh};
 use std::alloc::Global;
 
-/// The edges, faces and cells of each vertex, the faces and cells of each edge, the cells of each face, the vertices
-/// that share an edge with each vertex, and the cells that share a face with each cell.
+/// The edges and faces of each vertex, the faces of each edge, the edges and faces of each cell, the vertices that share an
+/// edge with each vertex, and the cells that share a face with each cell.
 #[derive(Drop)]
 pub struct Upper {
     pub vertex_vertices: PlainLists<u32>,
     pub vertex_edges: PlainLists<u32>,
     pub vertex_faces: PlainLists<u32>,
-    pub vertex_cells: PlainLists<u32>,
     pub edge_faces: PlainLists<u32>,
-    pub edge_cells: PlainLists<u32>,
-    pub face_cells: PlainLists<u32>,
+    pub cell_edges: PlainLists<u32>,
+    pub cell_faces: PlainLists<u32>,
     pub cell_cells: PlainLists<u32>,
 }
 
@@ -30,31 +29,26 @@ pub fn build_upper(alloc: Global, raw: &RawMesh, lower: &Lower) -> Result<Upper,
 {
     let vertices = raw.points().len() as u32;
     let edges = lower.sets.edges.len() as u32;
-    let faces = lower.sets.faces.len() as u32;
-    let vertex_edges = turn(alloc, lower.sets.edges.as_slice(), vertices)?;
-    let vertex_faces = turn(alloc, lower.sets.faces.as_slice(), vertices)?;
-    let vertex_cells = turn(alloc, lower.sets.cells.as_slice(), vertices)?;
-    let edge_faces = turn(alloc, lower.face_edges.as_slice(), edges)?;
-    let edge_cells = turn(alloc, lower.cell_edges.as_slice(), edges)?;
-    let face_cells = turn(alloc, lower.cell_faces.as_slice(), faces)?;
-    let vertex_vertices = all_beside(
+    let cells = raw.cells().len() as u32;
+    let ends = as_lists(alloc, lower.sets.edges.as_slice())?;
+    let vertex_edges = turn(alloc, &ends, vertices)?;
+    let vertex_faces = turn(
         alloc,
-        &vertex_edges,
-        &as_lists(alloc, lower.sets.edges.as_slice())?,
+        &as_lists(alloc, lower.sets.faces.as_slice())?,
+        vertices,
     )?;
-    let cell_cells = all_beside(
-        alloc,
-        &as_lists(alloc, lower.cell_faces.as_slice())?,
-        &face_cells,
-    )?;
+    let edge_faces = turn(alloc, &as_lists(alloc, lower.face_edges.as_slice())?, edges)?;
+    let cell_edges = turn(alloc, &lower.edge_cells, cells)?;
+    let cell_faces = turn(alloc, &lower.face_cells, cells)?;
+    let vertex_vertices = all_beside(alloc, &vertex_edges, &ends)?;
+    let cell_cells = all_beside(alloc, &cell_faces, &lower.face_cells)?;
     Ok(Upper {
         vertex_vertices,
         vertex_edges,
         vertex_faces,
-        vertex_cells,
         edge_faces,
-        edge_cells,
-        face_cells,
+        cell_edges,
+        cell_faces,
         cell_cells,
     })
 }

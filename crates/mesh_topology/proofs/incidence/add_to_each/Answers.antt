@@ -1,15 +1,26 @@
-use Rattle.std.proofs.Common.{◌∷◌, ◌++◌, [], get_or, ap, ◌∙◌, arith}
-use Rattle.std.proofs.lemmas.List.{get_or_read}
-use Rattle.mesh_topology.proofs.Turned.{added_more}
+use Rattle.std.proofs.Common.{◌+◌, ◌∷◌, ◌++◌, [], length, get_or, take, refl, sym, ap, subst, ◌∙◌, arith}
+use Rattle.mesh_topology.specs.Incidence.{IsChanged}
+use Rattle.mesh_topology.proofs.Turned.{changed_more, unchanged}
 use Rattle.mesh_topology.proofs.incidence.add_to_each.Goals as goal
+
+pub push-requires-clause-room : goal.push-requires-clause-room
+push-requires-clause-room c =
+    let row = c.args.row.now in
+    let old = c.args.lists.now.lists in
+    let mid = c.loop-y.lists.lists in
+    let y = get_or row c.loop-y.y-index 0 in
+    let below = c.requires.below c.loop-y.y-index 0 c.loop-y-test.true in
+    let same = ap (λ xs. length xs) (unchanged [] (λ list. list ++ c.args.id ∷ []) row c.loop-y.y-index old mid c.loop-y-test.true c.requires.rises below c.loop-y.invariant.0) in
+    let rooms = ap (λ r. get_or r y 0) c.loop-y.invariant.1 in
+    let room = c.requires.room c.loop-y.y-index 0 c.loop-y-test.true in
+    omega arith
 
 pub loop-y-preserved : goal.loop-y-preserved
 loop-y-preserved c =
     let row = c.args.row.now in
-    let old = c.args.lists.now.items in
-    let mid = c.loop-y.lists.items in
+    let old = c.args.lists.now.lists in
+    let mid = c.loop-y.lists.lists in
     let y = get_or row c.loop-y.y-index 0 in
     let below = c.requires.below c.loop-y.y-index 0 c.loop-y-test.true in
-    let read = get_or_read mid y c.index_mut.result.now (omega (arith, c.loop-y.invariant.long, below)) c.index_mut.ensures.value [] in
-    added_more row c.loop-y.y-index c.args.id old mid c.push.new.self c.loop-y-test.true c.requires.rises below c.loop-y.invariant
-    (c.in_ok-push.ensures.ok ∙ ap (λ list. list ++ c.args.id ∷ []) read)
+    let more = changed_more [] (λ list. list ++ c.args.id ∷ []) row c.loop-y.y-index old mid (get_or mid y [] ++ c.args.id ∷ []) c.loop-y-test.true c.requires.rises below c.loop-y.invariant.0 refl in
+    (subst (λ lists. IsChanged [] (λ list. list ++ c.args.id ∷ []) (take (c.loop-y.y-index + 1) row) old lists) (sym c.push.ensures.lists) more, c.push.ensures.rooms ∙ c.loop-y.invariant.1)

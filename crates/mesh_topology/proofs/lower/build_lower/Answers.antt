@@ -1,9 +1,14 @@
 use Rattle.std.proofs.Common.{◌≡◌, ◌<◌, ◌^◌, length, refl, ap, sym, subst, ◌∙◌, arith, rules}
-use Rattle.liszt_base.specs.declared.elements.Kind.TheVariants.{Vertex, Edge, Face}
+use Rattle.liszt_base.specs.declared.elements.Kind.TheVariants.{Vertex, Edge}
+use Rattle.std.specs.List.{AllZip}
+use Rattle.mesh_topology.specs.Choices.{choices, AreRanks}
 use Rattle.mesh_topology.specs.Elements.{count}
+use Rattle.mesh_topology.specs.Incidence.{ArePairs}
 use Rattle.mesh_topology.proofs.Near.{vertices_are}
-use Rattle.mesh_topology.proofs.Kept.{small_table, table_rows, indexed}
-use Rattle.mesh_topology.proofs.Lowers.{face_has, cell_has, face_edges, cell_ranks}
+use Rattle.mesh_topology.proofs.Kept.{small_table, indexed}
+use Rattle.mesh_topology.proofs.Lowers.{face_has, face_edges, row_vertices}
+use Rattle.mesh_topology.proofs.Listed.{zip_long}
+use Rattle.mesh_topology.proofs.Holders.{edges_have, faces_have}
 use Rattle.mesh_topology.proofs.lower.build_lower.Goals as goal
 
 pub overflow_cast-vertices : goal.overflow_cast-vertices
@@ -17,61 +22,58 @@ starts-requires c =
     let s = c.in_ok-sets.ensures in
     (omega arith, small_table c.args.raw.now c.requires Edge 2 refl c.as_slice.result.now (c.as_slice.ensures.value ∙ s.edges))
 
-pub starts-requires-2 : goal.starts-requires-2
-starts-requires-2 c =
-    let s = c.in_ok-sets.ensures in
-    (omega arith, small_table c.args.raw.now c.requires Face 3 refl c.as_slice-2.result.now (c.as_slice-2.ensures.value ∙ s.faces))
-
 pub face_edges-requires-clause-table : goal.face_edges-requires-clause-table
 face_edges-requires-clause-table c =
     let s = c.in_ok-sets.ensures in
     let points = ap (λ ps. length ps) c.points.ensures in
-    indexed c.args.raw.now c.requires Edge 2 refl (omega arith) c.as_slice.result.now c.as_slice-3.result.now c.in_ok-edge_starts.edge_starts.items c.as_slice-4.result.now (length c.points.result.now)
-    (c.as_slice.ensures.value ∙ s.edges) (c.as_slice-3.ensures.value ∙ s.edges) c.in_ok-edge_starts.ensures c.as_slice-4.ensures.value points
+    indexed c.args.raw.now c.requires Edge 2 refl (omega arith) c.as_slice.result.now c.as_slice-2.result.now c.in_ok-edge_starts.edge_starts.items c.as_slice-3.result.now (length c.points.result.now)
+    (c.as_slice.ensures.value ∙ s.edges) (c.as_slice-2.ensures.value ∙ s.edges) c.in_ok-edge_starts.ensures c.as_slice-3.ensures.value points
 
 pub face_edges-requires-clause-inside : goal.face_edges-requires-clause-inside
 face_edges-requires-clause-inside c =
     let s = c.in_ok-sets.ensures in
-    face_has c.args.raw.now c.requires.is c.as_slice-5.result.now c.as_slice-3.result.now (c.as_slice-5.ensures.value ∙ s.faces) (c.as_slice-3.ensures.value ∙ s.edges)
+    face_has c.args.raw.now c.requires.is c.as_slice-4.result.now c.as_slice-2.result.now (c.as_slice-4.ensures.value ∙ s.faces) (c.as_slice-2.ensures.value ∙ s.edges)
 
-pub cell_edges-requires-clause-table : goal.cell_edges-requires-clause-table
-cell_edges-requires-clause-table c =
+pub all_with-requires : goal.all_with-requires
+all_with-requires c =
+    let mesh = c.args.raw.now in
     let s = c.in_ok-sets.ensures in
-    let points = ap (λ ps. length ps) c.points.ensures in
-    indexed c.args.raw.now c.requires Edge 2 refl (omega arith) c.as_slice.result.now c.as_slice-6.result.now c.in_ok-edge_starts.edge_starts.items c.as_slice-7.result.now (length c.points.result.now)
-    (c.as_slice.ensures.value ∙ s.edges) (c.as_slice-6.ensures.value ∙ s.edges) c.in_ok-edge_starts.ensures c.as_slice-7.ensures.value points
+    let rows = row_vertices mesh c.requires.is c.in_ok-sets.sets.cells.items s.cells in
+    (edges_have mesh c.requires.is c.as_slice-5.result.now c.as_slice-6.result.now c.in_ok-sets.sets.vertex_cells (c.as_slice-5.ensures.value ∙ rows) (c.as_slice-6.ensures.value ∙ s.edges) s.vertex_cells).has
 
-pub cell_edges-requires-clause-inside : goal.cell_edges-requires-clause-inside
-cell_edges-requires-clause-inside c =
-    let s = c.in_ok-sets.ensures in
-    let rows = table_rows c.args.raw.now c.requires.is c.in_ok-sets.sets.cells.items c.as_slice-8.result.now c.as_slice-8.ensures.value s.cells in
-    cell_has c.args.raw.now c.requires.is c.as_slice-8.result.now rows Edge 2 refl c.as_slice-6.result.now (c.as_slice-6.ensures.value ∙ s.edges)
+pub pairs_of-requires : goal.pairs_of-requires
+pairs_of-requires c =
+    let long = zip_long (λ corners ids. AreRanks c.as_slice-2.result.now (choices 2 corners) ids) c.as_slice-4.result.now c.in_ok-face_edges.face_edges.items c.in_ok-face_edges.ensures in
+    ap (λ t. length t) (c.as_slice-7.ensures.value ∙ sym c.as_slice-4.ensures.value) ∙ (long ∙ ap (λ t. length t) (sym c.as_slice-8.ensures.value))
 
-pub cell_faces-requires-clause-table : goal.cell_faces-requires-clause-table
-cell_faces-requires-clause-table c =
+pub all_with-requires-2 : goal.all_with-requires-2
+all_with-requires-2 c =
+    let mesh = c.args.raw.now in
     let s = c.in_ok-sets.ensures in
-    let points = ap (λ ps. length ps) c.points.ensures in
-    indexed c.args.raw.now c.requires Face 3 refl (omega arith) c.as_slice-2.result.now c.as_slice-9.result.now c.in_ok-face_starts.face_starts.items c.as_slice-10.result.now (length c.points.result.now)
-    (c.as_slice-2.ensures.value ∙ s.faces) (c.as_slice-9.ensures.value ∙ s.faces) c.in_ok-face_starts.ensures c.as_slice-10.ensures.value points
-
-pub cell_faces-requires-clause-inside : goal.cell_faces-requires-clause-inside
-cell_faces-requires-clause-inside c =
-    let s = c.in_ok-sets.ensures in
-    let rows = table_rows c.args.raw.now c.requires.is c.in_ok-sets.sets.cells.items c.as_slice-11.result.now c.as_slice-11.ensures.value s.cells in
-    cell_has c.args.raw.now c.requires.is c.as_slice-11.result.now rows Face 3 refl c.as_slice-9.result.now (c.as_slice-9.ensures.value ∙ s.faces)
+    let rows = row_vertices mesh c.requires.is c.in_ok-sets.sets.cells.items s.cells in
+    let edges = edges_have mesh c.requires.is c.as_slice-5.result.now c.as_slice-6.result.now c.in_ok-sets.sets.vertex_cells (c.as_slice-5.ensures.value ∙ rows) (c.as_slice-6.ensures.value ∙ s.edges) s.vertex_cells in
+    let table = c.in_ok-face_edges.face_edges.items in
+    let one = subst (λ fs. AllZip (λ corners ids. AreRanks c.as_slice-2.result.now (choices 2 corners) ids) fs table) (c.as_slice-4.ensures.value ∙ sym c.as_slice-7.ensures.value) c.in_ok-face_edges.ensures in
+    let all = subst (λ ids. AllZip (λ corners ids. AreRanks c.as_slice-2.result.now (choices 2 corners) ids) c.as_slice-7.result.now ids) (sym c.as_slice-8.ensures.value) one in
+    let pairs = subst (λ ps. ArePairs c.as_slice-7.result.now c.as_slice-8.result.now ps) (sym c.as_slice-10.ensures.value) c.in_ok-pairs.ensures in
+    (faces_have mesh c.requires.is c.as_slice-9.result.now c.as_slice-7.result.now c.as_slice-2.result.now c.as_slice-8.result.now c.as_slice-10.result.now c.in_ok-edge_cells.edge_cells
+    (c.as_slice-9.ensures.value ∙ rows) (c.as_slice-7.ensures.value ∙ s.faces) (c.as_slice-2.ensures.value ∙ s.edges) all pairs (c.in_ok-edge_cells.ensures ∙ edges.are)).has
 
 pub returns : goal.returns
 returns c =
     let mesh = c.args.raw.now in
-    let is = c.requires.is in
     let s = c.in_ok-sets.ensures in
-    let one = c.as_slice-8.result.now in
-    let two = c.as_slice-11.result.now in
-    let rows = table_rows mesh is c.in_ok-sets.sets.cells.items one c.as_slice-8.ensures.value s.cells in
-    let again = table_rows mesh is c.in_ok-sets.sets.cells.items two c.as_slice-11.ensures.value s.cells in
+    let rows = row_vertices mesh c.requires.is c.in_ok-sets.sets.cells.items s.cells in
+    let edges = edges_have mesh c.requires.is c.as_slice-5.result.now c.as_slice-6.result.now c.in_ok-sets.sets.vertex_cells (c.as_slice-5.ensures.value ∙ rows) (c.as_slice-6.ensures.value ∙ s.edges) s.vertex_cells in
+    let table = c.in_ok-face_edges.face_edges.items in
+    let one = subst (λ fs. AllZip (λ corners ids. AreRanks c.as_slice-2.result.now (choices 2 corners) ids) fs table) (c.as_slice-4.ensures.value ∙ sym c.as_slice-7.ensures.value) c.in_ok-face_edges.ensures in
+    let all = subst (λ ids. AllZip (λ corners ids. AreRanks c.as_slice-2.result.now (choices 2 corners) ids) c.as_slice-7.result.now ids) (sym c.as_slice-8.ensures.value) one in
+    let pairs = subst (λ ps. ArePairs c.as_slice-7.result.now c.as_slice-8.result.now ps) (sym c.as_slice-10.ensures.value) c.in_ok-pairs.ensures in
+    let faces = faces_have mesh c.requires.is c.as_slice-9.result.now c.as_slice-7.result.now c.as_slice-2.result.now c.as_slice-8.result.now c.as_slice-10.result.now c.in_ok-edge_cells.edge_cells
+    (c.as_slice-9.ensures.value ∙ rows) (c.as_slice-7.ensures.value ∙ s.faces) (c.as_slice-2.ensures.value ∙ s.edges) all pairs (c.in_ok-edge_cells.ensures ∙ edges.are) in
     record {
       sets = s;
-      face_edges = face_edges mesh c.as_slice-5.result.now c.as_slice-3.result.now c.in_ok-face_edges.face_edges.items (c.as_slice-5.ensures.value ∙ s.faces) (c.as_slice-3.ensures.value ∙ s.edges) c.in_ok-face_edges.ensures;
-      cell_edges = cell_ranks mesh is one rows Edge 2 refl (omega arith) c.as_slice-6.result.now c.in_ok-cell_edges.cell_edges.items (c.as_slice-6.ensures.value ∙ s.edges) c.in_ok-cell_edges.ensures (λ id y. refl);
-      cell_faces = cell_ranks mesh is two again Face 3 refl (omega arith) c.as_slice-9.result.now c.in_ok-cell_faces.cell_faces.items (c.as_slice-9.ensures.value ∙ s.faces) c.in_ok-cell_faces.ensures (λ id y. refl);
+      face_edges = face_edges mesh c.as_slice-4.result.now c.as_slice-2.result.now table (c.as_slice-4.ensures.value ∙ s.faces) (c.as_slice-2.ensures.value ∙ s.edges) c.in_ok-face_edges.ensures;
+      edge_cells = c.in_ok-edge_cells.ensures ∙ edges.are;
+      face_cells = c.in_ok-face_cells.ensures ∙ faces.are;
     }

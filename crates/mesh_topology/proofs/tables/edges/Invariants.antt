@@ -1,7 +1,6 @@
-use Rattle.std.proofs.Common.{◌≡◌, take}
-use Rattle.std.specs.List.{flat_map}
-use Rattle.mesh_topology.specs.Choices.{choices}
+use Rattle.std.proofs.Common.{flat_map}
+use Rattle.mesh_topology.specs.Choices.{choices, IsTableBelow}
 use Rattle.mesh_topology.proofs.tables.edges.Given as goal
 
-abbrev pub invariant-loop-corners : goal.invariant-loop-corners
-invariant-loop-corners l = l.pairs.items ≡ flat_map (choices 2) (take l.corners-index l.cells)
+abbrev pub invariant-loop-v : goal.invariant-loop-v
+invariant-loop-v l = IsTableBelow (flat_map (choices 2) l.cells) l.table.items l.v

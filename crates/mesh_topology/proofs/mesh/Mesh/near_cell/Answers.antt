@@ -13,27 +13,23 @@ pub returns-in-Vertex : goal.returns-in-Vertex
 returns-in-Vertex c =
     read_row c.self.inside.raw c.args.self.now Cell Vertex c.args.out c.self.inside.lower.sets.cells.items c.args.c c.index.result.now (row_vertices c.self.inside.raw c.self.invariant.small.is c.self.inside.lower.sets.cells.items c.self.invariant.lower_is.sets.cells) c.self.view_is c.in-Vertex.is c.requires c.index.ensures
 
-pub index-requires-in-Edge : goal.index-requires-in-Edge
-index-requires-in-Edge c =
-    let l = inside c.self.inside.raw c.args.self.now Cell Edge c.self.inside.lower.cell_edges.items c.args.c c.self.invariant.lower_is.cell_edges c.self.view_is c.requires in
-    omega (arith, c.self.inside.lower.cell_edges.ok.0)
+pub of-requires : goal.of-requires
+of-requires c = inside c.self.inside.raw c.args.self.now Cell Edge c.self.inside.upper.cell_edges c.args.c c.self.invariant.upper_is.cell_edges c.self.view_is c.requires
 
 pub returns-in-Edge : goal.returns-in-Edge
 returns-in-Edge c =
-    read_row c.self.inside.raw c.args.self.now Cell Edge c.args.out c.self.inside.lower.cell_edges.items c.args.c c.index-in-Edge.result.now c.self.invariant.lower_is.cell_edges c.self.view_is c.in-Edge.is c.requires c.index-in-Edge.ensures
+    read c.self.inside.raw c.args.self.now Cell Edge c.args.out c.self.inside.upper.cell_edges c.args.c c.of.result.now c.self.invariant.upper_is.cell_edges c.self.view_is c.in-Edge.is c.requires c.of.ensures
 
-pub index-requires-in-Face : goal.index-requires-in-Face
-index-requires-in-Face c =
-    let l = inside c.self.inside.raw c.args.self.now Cell Face c.self.inside.lower.cell_faces.items c.args.c c.self.invariant.lower_is.cell_faces c.self.view_is c.requires in
-    omega (arith, c.self.inside.lower.cell_faces.ok.0)
+pub of-requires-in-Face : goal.of-requires-in-Face
+of-requires-in-Face c = inside c.self.inside.raw c.args.self.now Cell Face c.self.inside.upper.cell_faces c.args.c c.self.invariant.upper_is.cell_faces c.self.view_is c.requires
 
 pub returns-in-Face : goal.returns-in-Face
 returns-in-Face c =
-    read_row c.self.inside.raw c.args.self.now Cell Face c.args.out c.self.inside.lower.cell_faces.items c.args.c c.index-in-Face.result.now c.self.invariant.lower_is.cell_faces c.self.view_is c.in-Face.is c.requires c.index-in-Face.ensures
+    read c.self.inside.raw c.args.self.now Cell Face c.args.out c.self.inside.upper.cell_faces c.args.c c.of-in-Face.result.now c.self.invariant.upper_is.cell_faces c.self.view_is c.in-Face.is c.requires c.of-in-Face.ensures
 
-pub of-requires : goal.of-requires
-of-requires c = inside c.self.inside.raw c.args.self.now Cell Cell c.self.inside.upper.cell_cells c.args.c c.self.invariant.upper_is.cell_cells c.self.view_is c.requires
+pub of-requires-in-Cell : goal.of-requires-in-Cell
+of-requires-in-Cell c = inside c.self.inside.raw c.args.self.now Cell Cell c.self.inside.upper.cell_cells c.args.c c.self.invariant.upper_is.cell_cells c.self.view_is c.requires
 
 pub returns-in-Cell : goal.returns-in-Cell
 returns-in-Cell c =
-    read c.self.inside.raw c.args.self.now Cell Cell c.args.out c.self.inside.upper.cell_cells c.args.c c.of.result.now c.self.invariant.upper_is.cell_cells c.self.view_is c.in-Cell.is c.requires c.of.ensures
+    read c.self.inside.raw c.args.self.now Cell Cell c.args.out c.self.inside.upper.cell_cells c.args.c c.of-in-Cell.result.now c.self.invariant.upper_is.cell_cells c.self.view_is c.in-Cell.is c.requires c.of-in-Cell.ensures

@@ -16,8 +16,8 @@ returns-in-Face c =
     read c.self.inside.raw c.args.self.now Edge Face c.args.out c.self.inside.upper.edge_faces c.args.e c.of.result.now c.self.invariant.upper_is.edge_faces c.self.view_is c.in-Face.is c.requires.below c.of.ensures
 
 pub of-requires-in-Cell : goal.of-requires-in-Cell
-of-requires-in-Cell c = inside c.self.inside.raw c.args.self.now Edge Cell c.self.inside.upper.edge_cells c.args.e c.self.invariant.upper_is.edge_cells c.self.view_is c.requires.below
+of-requires-in-Cell c = inside c.self.inside.raw c.args.self.now Edge Cell c.self.inside.lower.edge_cells c.args.e c.self.invariant.lower_is.edge_cells c.self.view_is c.requires.below
 
 pub returns-in-Cell : goal.returns-in-Cell
 returns-in-Cell c =
-    read c.self.inside.raw c.args.self.now Edge Cell c.args.out c.self.inside.upper.edge_cells c.args.e c.of-in-Cell.result.now c.self.invariant.upper_is.edge_cells c.self.view_is c.in-Cell.is c.requires.below c.of-in-Cell.ensures
+    read c.self.inside.raw c.args.self.now Edge Cell c.args.out c.self.inside.lower.edge_cells c.args.e c.of-in-Cell.result.now c.self.invariant.lower_is.edge_cells c.self.view_is c.in-Cell.is c.requires.below c.of-in-Cell.ensures

@@ -23,8 +23,8 @@ returns-in-Edge c =
     read_row c.self.inside.raw c.args.self.now Face Edge c.args.out c.self.inside.lower.face_edges.items c.args.f c.index-in-Edge.result.now c.self.invariant.lower_is.face_edges c.self.view_is c.in-Edge.is c.requires.below c.index-in-Edge.ensures
 
 pub of-requires : goal.of-requires
-of-requires c = inside c.self.inside.raw c.args.self.now Face Cell c.self.inside.upper.face_cells c.args.f c.self.invariant.upper_is.face_cells c.self.view_is c.requires.below
+of-requires c = inside c.self.inside.raw c.args.self.now Face Cell c.self.inside.lower.face_cells c.args.f c.self.invariant.lower_is.face_cells c.self.view_is c.requires.below
 
 pub returns-in-Cell : goal.returns-in-Cell
 returns-in-Cell c =
-    read c.self.inside.raw c.args.self.now Face Cell c.args.out c.self.inside.upper.face_cells c.args.f c.of.result.now c.self.invariant.upper_is.face_cells c.self.view_is c.in-Cell.is c.requires.below c.of.ensures
+    read c.self.inside.raw c.args.self.now Face Cell c.args.out c.self.inside.lower.face_cells c.args.f c.of.result.now c.self.invariant.lower_is.face_cells c.self.view_is c.in-Cell.is c.requires.below c.of.ensures

@@ -24,8 +24,8 @@ returns-in-Face c =
     read c.self.inside.raw c.args.self.now Vertex Face c.args.out c.self.inside.upper.vertex_faces c.args.v c.of-in-Face.result.now c.self.invariant.upper_is.vertex_faces c.self.view_is c.in-Face.is c.requires c.of-in-Face.ensures
 
 pub of-requires-in-Cell : goal.of-requires-in-Cell
-of-requires-in-Cell c = inside c.self.inside.raw c.args.self.now Vertex Cell c.self.inside.upper.vertex_cells c.args.v c.self.invariant.upper_is.vertex_cells c.self.view_is c.requires
+of-requires-in-Cell c = inside c.self.inside.raw c.args.self.now Vertex Cell c.self.inside.lower.sets.vertex_cells c.args.v c.self.invariant.lower_is.sets.vertex_cells c.self.view_is c.requires
 
 pub returns-in-Cell : goal.returns-in-Cell
 returns-in-Cell c =
-    read c.self.inside.raw c.args.self.now Vertex Cell c.args.out c.self.inside.upper.vertex_cells c.args.v c.of-in-Cell.result.now c.self.invariant.upper_is.vertex_cells c.self.view_is c.in-Cell.is c.requires c.of-in-Cell.ensures
+    read c.self.inside.raw c.args.self.now Vertex Cell c.args.out c.self.inside.lower.sets.vertex_cells c.args.v c.of-in-Cell.result.now c.self.invariant.lower_is.sets.vertex_cells c.self.view_is c.in-Cell.is c.requires c.of-in-Cell.ensures

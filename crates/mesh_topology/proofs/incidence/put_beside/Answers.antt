@@ -1,5 +1,5 @@
 use Rattle.mesh_topology.proofs.Besides.{others_more}
-use Rattle.mesh_topology.proofs.incidence.beside.Goals as goal
+use Rattle.mesh_topology.proofs.incidence.put_beside.Goals as goal
 
 pub loop-by-preserved : goal.loop-by-preserved
 loop-by-preserved c =

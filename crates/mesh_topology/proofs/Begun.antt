@@ -1,0 +1,133 @@
+-- The sets that begin with each number, one number after the other.
+use Rattle.std.proofs.Common.{◌≡◌, ◌↔◌, ℕ, ◌+◌, ◌<◌, ◌^◌, true, Bool, List, [], ◌∷◌, ◌++◌, length, take, get_or, filter, flat_map, All, AllPairs, Contains, refl, sym, ap, subst, ◌∙◌, inl, inr, arith, eqb-true, eq-eqb}
+use Rattle.std.specs.List.{AllZip}
+use Rattle.std.proofs.lemmas.Bool.{cases_eq}
+use Rattle.std.proofs.lemmas.List.{flat_map_more, take_more}
+use Rattle.liszt_base.specs.Corners.{is_in}
+use Rattle.liszt_base.specs.MeshLists.{MeshLists}
+use Rattle.liszt_base.specs.declared.elements.Kind.TheVariants.{Vertex, Cell}
+use Rattle.liszt_base.specs.declared.mesh.RawCell.{RawCell}
+use Rattle.mesh_topology.specs.Choices.{begins_with, choices, first_of, IsAscending, IsTableBelow, IsTableOf}
+use Rattle.mesh_topology.specs.Elements.{numbers, count}
+use Rattle.mesh_topology.specs.Tables.{IsSmallMesh}
+use Rattle.mesh_topology.specs.Incidence.{begun_in, turned, AreCellsOfEach, CanTurn}
+use Rattle.mesh_topology.proofs.Sets.{Member, in_member, member_in, member_at, member_contained, contained_member, member_left, member_right, member_parted, member_flat, member_flattened, member_kept, member_of_kept}
+use Rattle.mesh_topology.proofs.Rising.{all_pairs, pairs_of, pairs_append, Before, before_first}
+use Rattle.mesh_topology.proofs.Chosen.{choice_is}
+use Rattle.mesh_topology.proofs.FaceEdges.{placed}
+use Rattle.mesh_topology.proofs.Near.{below_range, range_below}
+use Rattle.mesh_topology.proofs.Lowers.{row_vertices}
+use Rattle.mesh_topology.proofs.Uppers.{can_turn}
+use Rattle.mesh_topology.proofs.Turned.{turned_at, turned_long}
+
+-- a row more
+pub begun_more : (size : ℕ) (rows : List (List ℕ)) (first : ℕ) (ids : List ℕ) (i : ℕ) (sets mid new : List (List ℕ)) → i < length ids → sets ≡ choices size (get_or rows (get_or ids i 0) [])
+    → mid ≡ begun_in size rows first (take i ids) → new ≡ mid ++ filter (begins_with first) sets → new ≡ begun_in size rows first (take (i + 1) ids)
+begun_more size rows first ids i sets mid new l one so is =
+    let f = λ (id : ℕ). filter (begins_with first) (choices size (get_or rows id [])) in
+    is ∙ (ap (λ xs. xs ++ filter (begins_with first) sets) so ∙ (ap (λ xs. begun_in size rows first (take i ids) ++ filter (begins_with first) xs) one
+    ∙ (flat_map_more f [] (take i ids) (get_or ids i 0) ∙ ap (λ xs. begun_in size rows first xs) (sym (take_more ids i 0 l)))))
+
+-- what a set with a later first number comes behind
+before_later : (v : ℕ) (a b : List ℕ) → first_of a < v → first_of b ≡ v → Before a b
+before_later v a [] l e = absurd (omega arith)
+before_later v [] (y ∷ b) l e = refl
+before_later v (x ∷ a) (y ∷ b) l e = before_first x y a b (omega arith)
+
+-- the sets of one number more
+pub table_more : (sets begun table block new : List (List ℕ)) (v : ℕ) → ((set : List ℕ) → Contains begun set ↔ (Contains sets set × (first_of set ≡ v))) → IsTableBelow sets table v → IsTableOf begun block
+    → new ≡ table ++ block → IsTableBelow sets new (v + 1)
+table_more sets begun table block new v are so one is = subst (λ t. IsTableBelow sets t (v + 1)) (sym is) (record { ordered = ordered; members = λ set. (there set, back set) }) where
+  in_table : (set : List ℕ) → Member set table → Contains sets set × (first_of set < v)
+  in_table set m = (so.members set).0 (contained_member table set m)
+
+  in_block : (set : List ℕ) → Member set block → Contains sets set × (first_of set ≡ v)
+  in_block set m = (are set).0 ((one.members set).0 (contained_member block set m))
+
+  ordered : AllPairs Before (table ++ block)
+  ordered = all_pairs Before (table ++ block) (pairs_append Before table block (pairs_of Before table so.ordered) (pairs_of Before block one.ordered) (λ x y m n. before_later v x y (in_table x m).1 (in_block y n).1))
+
+  there : (set : List ℕ) → Contains (table ++ block) set → Contains sets set × (first_of set < v + 1)
+  there set c = elim (member_parted table block set (member_contained (table ++ block) set c)) [
+    | inl m ↦ let h = in_table set m in (h.0, omega (arith, h.1))
+    | inr m ↦ let h = in_block set m in (h.0, omega (arith, h.1))
+  ]
+
+  back : (set : List ℕ) → Contains sets set × (first_of set < v + 1) → Contains (table ++ block) set
+  back set h = elim (cases_eq (first_of set) v) [
+    | inl e ↦ contained_member (table ++ block) set (member_right table block set (member_contained block set ((one.members set).1 ((are set).1 (h.0, e)))))
+    | inr ne ↦ contained_member (table ++ block) set (member_left table block set (member_contained table set ((so.members set).1 (h.0, omega (arith, h.1)))))
+  ]
+
+-- the choices of rows that begin with a number are those of the rows that have it
+begins : (size v : ℕ) (row set : List ℕ) → 0 < size → AllPairs (λ x y. x < y) row → Member set (choices size row) → first_of set ≡ v → is_in row v ≡ true
+begins size v row set some up m e = go set (choice_is size row set (pairs_of (λ x y. x < y) row up) m).size_is (choice_is size row set (pairs_of (λ x y. x < y) row up) m).inside e where
+  go : (set : List ℕ) → length set ≡ size → ((x : ℕ) → Member x set → Member x row) → first_of set ≡ v → is_in row v ≡ true
+  go [] l inside f = absurd (omega arith)
+  go (x ∷ set) l inside f = member_in row v (subst (λ y. Member y row) f (inside x (inl refl)))
+
+pub begun_are : (size : ℕ) (cells lists : List (List ℕ)) (v : ℕ) → 0 < size → AreCellsOfEach cells lists → v < length lists → (set : List ℕ)
+    → Contains (begun_in size cells v (get_or lists v [])) set ↔ (Contains (flat_map (choices size) cells) set × (first_of set ≡ v))
+begun_are size cells lists v some h l set = (there, back) where
+  f : ℕ → List (List ℕ)
+  f id = filter (begins_with v) (choices size (get_or cells id []))
+
+  has : ℕ → Bool
+  has id = is_in (get_or cells id []) v
+
+  ids : get_or lists v [] ≡ filter has (numbers 0 (length cells))
+  ids = ap (λ xs. get_or xs v []) h.are ∙ turned_at cells (length lists) v l
+
+  there : Contains (begun_in size cells v (get_or lists v [])) set → Contains (flat_map (choices size) cells) set × (first_of set ≡ v)
+  there c =
+      let m = member_flattened f (get_or lists v []) set (member_contained (begun_in size cells v (get_or lists v [])) set c) in
+      let k = member_of_kept (begins_with v) (choices size (get_or cells m.0 [])) set m.2 in
+      let id = member_of_kept has (numbers 0 (length cells)) m.0 (subst (λ xs. Member m.0 xs) ids m.1) in
+      let row = member_at cells m.0 [] (range_below (length cells) m.0 id.0) in
+      (contained_member (flat_map (choices size) cells) set (member_flat (choices size) cells (get_or cells m.0 []) set row k.0), eqb-true (first_of set) v k.1)
+
+  back : Contains (flat_map (choices size) cells) set × (first_of set ≡ v) → Contains (begun_in size cells v (get_or lists v [])) set
+  back p =
+      let m = member_flattened (choices size) cells set (member_contained (flat_map (choices size) cells) set p.0) in
+      let at = placed cells m.0 [] m.1 in
+      let here : Member set (choices size (get_or cells at.0 [])) = subst (λ row. Member set (choices size row)) (sym at.2) m.2 in
+      let in_row = begins size v (get_or cells at.0 []) set some (h.can.rises at.0 [] at.1) here p.1 in
+      let id : Member at.0 (get_or lists v []) = subst (λ xs. Member at.0 xs) (sym ids) (member_kept has (numbers 0 (length cells)) at.0 (below_range (length cells) at.0 at.1) in_row) in
+      let kept = member_kept (begins_with v) (choices size (get_or cells at.0 [])) set here (eq-eqb (first_of set) v p.1) in
+      contained_member (begun_in size cells v (get_or lists v [])) set (member_flat f (get_or lists v []) at.0 set id kept)
+
+-- the cells of a vertex are cells
+pub cells_of : (cells lists : List (List ℕ)) (v : ℕ) → AreCellsOfEach cells lists → v < length lists → All (λ id. id < length cells) (get_or lists v [])
+cells_of cells lists v h l k d m =
+    let has = λ (id : ℕ). is_in (get_or cells id []) v in
+    let ids = ap (λ xs. get_or xs v []) h.are ∙ turned_at cells (length lists) v l in
+    let here = subst (λ xs. Member (get_or (get_or lists v []) k d) xs) ids (member_at (get_or lists v []) k d m) in
+    range_below (length cells) (get_or (get_or lists v []) k d) (member_of_kept has (numbers 0 (length cells)) (get_or (get_or lists v []) k d) here).0
+
+-- all numbers
+pub table_all : (size : ℕ) (cells lists table : List (List ℕ)) (v : ℕ) → 0 < size → AreCellsOfEach cells lists → v ≡ length lists → IsTableBelow (flat_map (choices size) cells) table v
+    → IsTableOf (flat_map (choices size) cells) table
+table_all size cells lists table v some h e so = record { ordered = so.ordered; members = λ set. (λ c. ((so.members set).0 c).0, λ c. (so.members set).1 (c, below set c)) } where
+  below : (set : List ℕ) → Contains (flat_map (choices size) cells) set → first_of set < v
+  below set c =
+      let m = member_flattened (choices size) cells set (member_contained (flat_map (choices size) cells) set c) in
+      let at = placed cells m.0 [] m.1 in
+      let here : Member set (choices size (get_or cells at.0 [])) = subst (λ row. Member set (choices size row)) (sym at.2) m.2 in
+      let in_row = begins size (first_of set) (get_or cells at.0 []) set some (h.can.rises at.0 [] at.1) here refl in
+      let where_in = placed (get_or cells at.0 []) (first_of set) 0 (in_member (get_or cells at.0 []) (first_of set) in_row) in
+      let b = h.can.below at.0 [] at.1 where_in.0 0 where_in.1 in
+      let f = where_in.2 in
+      omega arith
+
+-- the lists of each number's rows
+pub cells_of_each : (cells lists : List (List ℕ)) (count : ℕ) → CanTurn cells count → lists ≡ turned cells count → count < 2 ^ 32 → AreCellsOfEach cells lists
+cells_of_each cells lists count can are few =
+    let e : count ≡ length lists = sym (ap (λ xs. length xs) are ∙ turned_long cells count) in
+    record { can = subst (λ n. CanTurn cells n) e can; are = are ∙ ap (λ n. turned cells n) e; few = subst (λ n. n < 2 ^ 32) e few }
+
+-- of the rows of all cells
+pub cells_of_vertices : (mesh : MeshLists) → IsSmallMesh mesh → (cells : List RawCell) (rows read lists : List (List ℕ)) (n : ℕ) → cells ≡ mesh.cells → AllZip IsAscending cells rows → read ≡ rows
+    → n ≡ count mesh Vertex → lists ≡ turned read n → AreCellsOfEach rows lists
+cells_of_vertices mesh small cells rows read lists n same all e m are =
+    let near = row_vertices mesh small.is rows (subst (λ cs. AllZip IsAscending cs rows) same all) in
+    cells_of_each rows lists n (can_turn mesh small Cell Vertex rows n near m) (are ∙ ap (λ r. turned r n) e) (subst (λ k. k < 2 ^ 32) (sym m) (small.fits Vertex))

@@ -1,0 +1,28 @@
+use Rattle.std.proofs.Common.{◌<◌, ◌++◌, [], All, length, get_or, flat_map, ap, sym, subst, ◌∙◌, arith}
+use Rattle.std.proofs.lemmas.Option.{get_or_from_slice_get}
+use Rattle.mesh_topology.specs.Choices.{choices, IsTableOf}
+use Rattle.mesh_topology.specs.Incidence.{begun_in}
+use Rattle.mesh_topology.proofs.Begun.{begun_are, cells_of, table_all, table_more}
+use Rattle.mesh_topology.proofs.tables.edges.Goals as goal
+
+pub put_pairs-requires : goal.put_pairs-requires
+put_pairs-requires c =
+    let lists = c.args.vertex_cells.now in
+    let l : c.loop-v.v < length lists = omega (arith, c.len-v-end.ensures) in
+    let e = get_or_from_slice_get lists c.loop-v.v c.of.result.now [] c.of.ensures in
+    subst (λ ids. All (λ id. id < length c.args.cells.now) ids) e (cells_of c.args.cells.now lists c.loop-v.v c.requires l)
+
+pub loop-v-preserved : goal.loop-v-preserved
+loop-v-preserved c =
+    let cells = c.args.cells.now in
+    let lists = c.args.vertex_cells.now in
+    let v = c.loop-v.v in
+    let l : v < length lists = omega (arith, c.len-v-end.ensures) in
+    let e = get_or_from_slice_get lists v c.of.result.now [] c.of.ensures in
+    let one = subst (λ ids. IsTableOf (begun_in 2 cells v ids) c.put_pairs.new.pairs.items) (sym e) c.in_ok-put_pairs.ensures in
+    table_more (flat_map (choices 2) cells) (begun_in 2 cells v (get_or lists v [])) c.loop-v.table.items c.put_pairs.new.pairs.items c.extend_from_slice.new.self.items v
+    (begun_are 2 cells lists v (omega arith) c.requires l) c.loop-v.invariant one (c.in_ok-extend_from_slice.ensures.items ∙ ap (λ xs. c.loop-v.table.items ++ xs) c.deref.ensures.value)
+
+pub returns : goal.returns
+returns c =
+    table_all 2 c.args.cells.now c.args.vertex_cells.now c.loop-v.table.items c.loop-v.v (omega arith) c.requires (omega (arith, c.len-v-end.ensures, c.loop-v.auto.v-end)) c.loop-v.invariant
