@@ -1,4 +1,2 @@
 pub mod Cuts
-pub mod Numbers
-pub mod Pieces
 pub mod Operators

@@ -1,6 +1,4 @@
 pub mod Corners
 pub mod Cuts
 pub mod MeshLists
-pub mod Numbers
 pub mod Reductions
-pub mod Pieces

@@ -5,6 +5,7 @@ use Rattle.std.specs.List.{concat, cons_option, enumerate_from, All, AllPairs, A
 use Rattle.std.proofs.Math.Seq.{take-append_seam, drop-append_seam}
 use Rattle.std.proofs.lemmas.List.Kept.{AllPairs-cons}
 use Rattle.std.proofs.lemmas.List.Elements.{All-nil, All-cons}
+use Rattle.std.proofs.lemmas.Bool.{ltb-true}
 use Rattle.liszt_base.specs.declared.answers.Place.{Place}
 use Rattle.liszt_base.specs.declared.answers.ProgramFault.{ProgramFault}
 use Rattle.liszt_base.specs.declared.answers.ProgramWhat.TheVariants.{Big}
@@ -60,6 +61,27 @@ uncounted n (Err fault ∷ fs) tokens e = cc
 uncounted n (Ok token ∷ fs) tokens e =
     let big : ProgramFault = record { what = Big; place = token.place; first = None } in
     uncounted_step token big fs (map counted (enumerate_from (n + 1) fs)) tokens (nat_lt n (2 ^ 17)) e (uncounted (n + 1) fs)
+
+-- with one token more there is still room
+few_step : (n : ℕ) (token : TokenOf) (fault : ProgramFault) (rest : List Finding) (tokens : List TokenOf) (few : Bool) → nat_lt n (2 ^ 17) ≡ few
+    → all_or_first (cond few (Ok token) (Err fault) ∷ rest) ≡ Ok tokens
+    → ((more : List TokenOf) → n + 1 ≤ 2 ^ 17 → all_or_first rest ≡ Ok more → n + 1 + length more ≤ 2 ^ 17)
+    → n + length tokens ≤ 2 ^ 17
+few_step n token fault rest tokens false is e more = cc
+few_step n token fault rest tokens true is e more =
+    let o = onto_is token (all_or_first rest) tokens e in
+    let le : n + 1 ≤ 2 ^ 17 = omega (arith, ltb-true n (2 ^ 17) is) in
+    rw o.2 (omega (arith, more o.0 le o.1))
+
+-- at most 2^17 tokens
+pub few_counted : (n : ℕ) (fs : List Finding) (tokens : List TokenOf) → n ≤ 2 ^ 17
+    → all_or_first (map counted (enumerate_from n fs)) ≡ Ok tokens → n + length tokens ≤ 2 ^ 17
+few_counted n [] [] le e = omega (arith, le)
+few_counted n [] (t ∷ tokens) le e = cc
+few_counted n (Err fault ∷ fs) tokens le e = cc
+few_counted n (Ok token ∷ fs) tokens le e =
+    let big : ProgramFault = record { what = Big; place = token.place; first = None } in
+    few_step n token big (map counted (enumerate_from (n + 1) fs)) tokens (nat_lt n (2 ^ 17)) refl e (few_counted (n + 1) fs)
 
 -- the bytes between a front and what is behind them
 pub bytes_between : (front bytes rest : List ℕ)

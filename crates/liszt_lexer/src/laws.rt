@@ -1,6 +1,6 @@
 //! Laws of the definitions, each the contract of a function that does nothing.
 
-ghost use Rattle.std.specs.Prelude.{◌≡◌, ◌<◌, ◌≤◌, ℕ, true, None, Some, is_some, List, length, map, take, Ok};
+ghost use Rattle.std.specs.Prelude.{◌≡◌, ◌<◌, ◌≤◌, ℕ, ◌^◌, true, None, Some, is_some, List, length, map, take, Ok};
 ghost use Rattle.std.specs.List.{concat, filter, AllPairs, AllByRecursion};
 ghost use Rattle.liszt_lexer.specs.Lexer.{piece, longest, pieces, tokens_of, LiesBefore, IsSpelledIn, bytes_of, AreLongest, is_no_gap};
 ghost use Rattle.liszt_lexer.specs.declared.token.Token.{Token as TokenOf};
@@ -34,4 +34,9 @@ pub fn pieces_are_longest()
 /// The tokens are the pieces that are no gaps, where there is no fault.
 pub fn tokens_are_the_pieces()
     ensures { (text : List ℕ) (tokens : List TokenOf) → tokens_of text ≡ Ok tokens → map (bytes_of text) tokens ≡ filter (λ bytes. is_no_gap (piece bytes)) (pieces text) }
+{}
+
+/// A text has at most 2¹⁷ tokens, or it is refused.
+pub fn tokens_are_few()
+    ensures { (text : List ℕ) (tokens : List TokenOf) → tokens_of text ≡ Ok tokens → length tokens ≤ 2 ^ 17 }
 {}

@@ -17,8 +17,9 @@ use Rattle.liszt_parser.specs.Grammar.{Lexeme, Rank, chain, comparison, alone, o
 use Rattle.liszt_base.specs.declared.answers.ProgramFault.{ProgramFault}
 use Rattle.liszt_base.specs.declared.answers.ProgramWhat.TheVariants.{Syntax, Deep}
 use Rattle.liszt_parser.specs.ParseFault.{Begins, IsProgram, IsShallow, IsSyntaxAt, IsDeepAt, place_of, fault_at, IsParseFault}
+use Rattle.liszt_parser.specs.Sorts.{Stops, level_strength, rank_strength, strength, strength_at}
 use Rattle.liszt_parser.proofs.OneExpression.{one_expression, one_bracketed}
-use Rattle.liszt_parser.proofs.Sorts.{strength, strength_at, level_strength, rank_strength, Stops, sign_strength, rel_strength, closes_stops}
+use Rattle.liszt_parser.proofs.Sorts.{sign_strength, rel_strength, closes_stops}
 
 -- EXPRESSIONS
 -- whether a token begins an expression
@@ -34,7 +35,7 @@ pub starts : TokenKind → Bool
 unfolding starts_by
 starts kind = starts_by (fun_of kind) kind
 
-abbrev head_starts : List Lexeme → Bool
+abbrev pub head_starts : List Lexeme → Bool
 head_starts [] = false
 head_starts (t ∷ ts) = starts t.kind
 
@@ -48,7 +49,7 @@ unfolding starts starts_by
 brace_starts = refl
 
 -- and each does
-starts_of : {rank : Rank} {ts left : List Lexeme} {e : Expression} → IsExpression rank ts e left → head_starts ts ≡ true
+pub starts_of : {rank : Rank} {ts left : List Lexeme} {e : Expression} → IsExpression rank ts e left → head_starts ts ≡ true
 unfolding starts starts_by
 starts_of (one_operand d) = starts_of d
 starts_of (chained d l) = starts_of d

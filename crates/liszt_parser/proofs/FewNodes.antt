@@ -61,7 +61,7 @@ targeted (target d) = omega (arith, brackets d)
 
 -- the nodes of a statement, a body, a block and what follows an `if`
 mutual
-  a_statement : {ts left : List Lexeme} {s : Statement} → IsStatement ts s left → statement_nodes s + length left ≤ length ts
+  pub a_statement : {ts left : List Lexeme} {s : Statement} → IsStatement ts s left → statement_nodes s + length left ≤ length ts
   a_statement (var d) = declared d
   a_statement (val d) = declared d
   a_statement (assign n h is to how d close) = omega (arith, targeted to, expression d, closes close)
@@ -83,7 +83,7 @@ mutual
 
 -- the nodes of an item, the items, a block of them and what follows an `if`
 mutual
-  an_item : {ts left : List Lexeme} {i : MainItem} → IsItem ts i left → item_nodes i + length left ≤ length ts
+  pub an_item : {ts left : List Lexeme} {i : MainItem} → IsItem ts i left → item_nodes i + length left ≤ length ts
   an_item (main_field w n d k s is named colon kind set e close) = omega (arith, expression e, closes close)
   an_item (main_var d) = declared d
   an_item (main_assign n h is how d close) = omega (arith, expression d, closes close)

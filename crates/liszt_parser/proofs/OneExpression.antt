@@ -6,9 +6,11 @@ use Rattle.liszt_tree.specs.declared.tree.Level.{Level}
 use Rattle.liszt_tree.specs.declared.tree.Level.TheVariants.{Or, And, Sum, Product}
 use Rattle.liszt_tree.specs.declared.tree.Rel.{Rel}
 use Rattle.liszt_tree.specs.declared.tree.Sign.{Sign}
-use Rattle.liszt_tree.specs.Tree.{Expression, Number, Name, Field, Call, Towards, Neg, Not, Chain, Compare, Links, no_links, link}
+use Rattle.liszt_tree.specs.Tree.{Expression, Number, Name, Field, Call, Towards, Neg, Not, Compare, Links, no_links, link}
 use Rattle.liszt_parser.specs.Grammar.{Lexeme, Rank, chain, comparison, prefixed, alone, operand, any, fun_of, sign_of, rel_of, open_bracket, close_bracket, comma, minus, bang, towards_word, IsExpression, one_operand, chained, one_sum, compared, no_prefix, negated, denied, number, name, field, call, towards, in_brackets, IsLinks, no_more_links, linked, IsBracketed, bracketed}
-use Rattle.liszt_parser.proofs.Sorts.{Sort, a_number, a_call, a_name, a_towards, an_open, sort_of, sort_number, sort_name, sort_call, sort_towards, sort_open, sort_minus, sort_bang, Stops, sign_strength, rel_strength, open_strength, close_strength, comma_strength}
+use Rattle.liszt_parser.specs.Sorts.{Sort, Stops, a_call, a_name, a_number, a_towards, an_open, sort_of}
+use Rattle.liszt_parser.specs.Productions.{joined}
+use Rattle.liszt_parser.proofs.Sorts.{sort_number, sort_name, sort_call, sort_towards, sort_open, sort_minus, sort_bang, sign_strength, rel_strength, open_strength, close_strength, comma_strength}
 
 -- WHAT IS CLAIMED: who reads a further tree from the tokens, with what is left behind it, reads this one
 abbrev pub Agrees : Rank → List Lexeme → Expression → List Lexeme → Type 0
@@ -24,7 +26,7 @@ BracketedAgree ts e left = (e' : Expression) (left' : List Lexeme) → IsBracket
 
 -- STOPS
 -- what stops a chain stops its operands
-stronger : (level : Level) (left : List Lexeme) → Stops (chain level) left → Stops (operand level) left
+pub stronger : (level : Level) (left : List Lexeme) → Stops (chain level) left → Stops (operand level) left
 stronger Or left h = omega arith
 stronger And left h = omega arith
 stronger Sum left h = omega arith
@@ -38,22 +40,17 @@ sign_stops Sum t ts s h = let is = sign_strength Sum t.kind s h in omega arith
 sign_stops Product t ts s h = let is = sign_strength Product t.kind s h in omega arith
 
 -- but it stops no chain of that level
-sign_goes_on : {A : Type 0} (level : Level) (t : Lexeme) (ts : List Lexeme) (s : Sign) → sign_of level t.kind ≡ Some s
+pub sign_goes_on : {A : Type 0} (level : Level) (t : Lexeme) (ts : List Lexeme) (s : Sign) → sign_of level t.kind ≡ Some s
     → Stops (chain level) (t ∷ ts) → A
 sign_goes_on level t ts s h stop = let is = sign_strength level t.kind s h in absurd (omega arith)
 
 -- before links, as before nothing, an operand stops
-links_stop : {level : Level} {mid left : List Lexeme} {links : Links} → IsLinks level mid links left → Stops (chain level) left
+pub links_stop : {level : Level} {mid left : List Lexeme} {links : Links} → IsLinks level mid links left → Stops (chain level) left
     → Stops (operand level) mid
 links_stop {level} {left} no_more_links stop = stronger level left stop
 links_stop (linked {level} {ts} {s} t h d more) stop = sign_stops level t ts s h
 
 -- CHAINS
--- an operand and its links as a tree
-abbrev joined : Level → Expression → Links → Expression
-joined level first no_links = first
-joined level first (link s place e more) = Chain level first (link s place e more)
-
 -- a chain, of one operand too, read as its first operand and its links
 record Chained (level : Level) (ts : List Lexeme) (e : Expression) (left : List Lexeme) : Type 0 where
   first : Expression
@@ -114,7 +111,7 @@ compared_of (one_sum {left} {e} d) = record { first = e; mid = left; one = d; mo
 compared_of (compared {mid} {a} t d h d') = record { first = a; mid = t ∷ mid; one = d; more = a_rel t h d' }
 
 -- a comparison stops a sum, but no comparison
-rel_stops : (t : Lexeme) (ts : List Lexeme) (rel : Rel) → rel_of t.kind ≡ Some rel → Stops (chain Sum) (t ∷ ts)
+pub rel_stops : (t : Lexeme) (ts : List Lexeme) (rel : Rel) → rel_of t.kind ≡ Some rel → Stops (chain Sum) (t ∷ ts)
 rel_stops t ts rel h = let is = rel_strength t.kind rel h in omega arith
 
 rel_goes_on : {A : Type 0} (t : Lexeme) (ts : List Lexeme) (rel : Rel) → rel_of t.kind ≡ Some rel → Stops comparison (t ∷ ts) → A
@@ -231,10 +228,10 @@ brackets_agree : {ts left : List Lexeme} {e : Expression} → IsBracketed ts e l
 brackets_agree (bracketed {ts} o c h d h') one e' left' d' stop' = one e' left' (alone_by o ts left' e' (sort_open h) d')
 
 -- a closing bracket and a comma stop every expression
-close_stops : (c : Lexeme) (ts : List Lexeme) → c.kind ≡ close_bracket → Stops any (c ∷ ts)
+pub close_stops : (c : Lexeme) (ts : List Lexeme) → c.kind ≡ close_bracket → Stops any (c ∷ ts)
 close_stops c ts h = let is = close_strength h in omega arith
 
-comma_stops : (c : Lexeme) (ts : List Lexeme) → c.kind ≡ comma → Stops any (c ∷ ts)
+pub comma_stops : (c : Lexeme) (ts : List Lexeme) → c.kind ≡ comma → Stops any (c ∷ ts)
 comma_stops c ts h = let is = comma_strength h in omega arith
 
 -- brackets agree where the expression in them does
@@ -263,10 +260,10 @@ prefix_stops : (left : List Lexeme) → Stops prefixed left → Stops alone left
 prefix_stops left h = omega arith
 
 -- an expression alone begins with no prefix operator
-no_minus : {A : Type 0} {ts left : List Lexeme} {e : Expression} (t : Lexeme) → IsExpression alone (t ∷ ts) e left → t.kind ≡ minus → A
+pub no_minus : {A : Type 0} {ts left : List Lexeme} {e : Expression} (t : Lexeme) → IsExpression alone (t ∷ ts) e left → t.kind ≡ minus → A
 no_minus {ts} {left} {e} t d h = absurd (alone_by t ts left e (sort_minus h) d)
 
-no_bang : {A : Type 0} {ts left : List Lexeme} {e : Expression} (t : Lexeme) → IsExpression alone (t ∷ ts) e left → t.kind ≡ bang → A
+pub no_bang : {A : Type 0} {ts left : List Lexeme} {e : Expression} (t : Lexeme) → IsExpression alone (t ∷ ts) e left → t.kind ≡ bang → A
 no_bang {ts} {left} {e} t d h = absurd (alone_by t ts left e (sort_bang h) d)
 
 -- one with no prefix agrees where it does alone

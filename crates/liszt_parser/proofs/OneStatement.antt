@@ -6,7 +6,8 @@ use Rattle.liszt_lexer.specs.declared.token.TokenKind.TheVariants.{Name as NameT
 use Rattle.liszt_tree.specs.declared.tree.How.{How}
 use Rattle.liszt_tree.specs.Tree.{Expression, Statement, Var, Val, Assign, If, While, For, Body, no_statement, statement}
 use Rattle.liszt_parser.specs.Grammar.{Lexeme, any, how_of, set_of, open_bracket, semicolon, close_brace, var_word, val_word, if_word, else_word, while_word, for_word, IsExpression, IsBracketed, Closes, by_semicolon, by_brace, by_end, IsDeclared, is_declared, IsTarget, no_target, target, IsStatement, var, val, assign, if, while, for, IsBody, no_statements, statements, IsBlock, block, IsElse, no_else, else}
-use Rattle.liszt_parser.proofs.Sorts.{Sort, a_name, a_var, a_val, an_if, an_else, a_while, a_for, an_end, sort_of, sort_name, sort_var, sort_val, sort_if, sort_else, sort_while, sort_for, sort_end, head_sort, clash, closes_stops}
+use Rattle.liszt_parser.specs.Sorts.{Ends, NoElse, Sort, a_for, a_name, a_val, a_var, a_while, an_else, an_end, an_if, head_sort, sort_of}
+use Rattle.liszt_parser.proofs.Sorts.{sort_name, sort_var, sort_val, sort_if, sort_else, sort_while, sort_for, sort_end, clash, closes_stops}
 use Rattle.liszt_parser.proofs.OneExpression.{one_expression, one_bracketed, bracket_opens}
 
 -- PLAIN EQUATIONS
@@ -34,7 +35,7 @@ not_both : {A : Type 0} (t : Lexeme) → t.kind ≡ semicolon → t.kind ≡ clo
 not_both t h h' = absurd cc
 
 -- what closes leaves one thing
-one_closing : {mid left left' : List Lexeme} → Closes mid left → Closes mid left' → left ≡ left'
+pub one_closing : {mid left left' : List Lexeme} → Closes mid left → Closes mid left' → left ≡ left'
 one_closing (by_semicolon t h) (by_semicolon t' h') = refl
 one_closing (by_semicolon t h) (by_brace t' h') = not_both t h h'
 one_closing (by_brace t h) (by_semicolon t' h') = not_both t h' h
@@ -80,7 +81,7 @@ one_target {left' = left'} f f' (target b) (target {e = e'} b') = let a = one_br
 
 -- HOW STATEMENTS BEGIN
 -- the sort of the first token of a statement
-abbrev statement_sort : {ts left : List Lexeme} {s : Statement} → IsStatement ts s left → Sort
+abbrev pub statement_sort : {ts left : List Lexeme} {s : Statement} → IsStatement ts s left → Sort
 statement_sort (var d) = a_var
 statement_sort (val d) = a_val
 statement_sort (assign n h hn i how d c) = a_name
@@ -88,20 +89,13 @@ statement_sort (if w h b k l) = an_if
 statement_sort (while w h b k) = a_while
 statement_sort (for w o n a s c hw ho hn ha hs b hc k) = a_for
 
-statement_begins : {ts left : List Lexeme} {s : Statement} (d : IsStatement ts s left) → head_sort ts ≡ statement_sort d
+pub statement_begins : {ts left : List Lexeme} {s : Statement} (d : IsStatement ts s left) → head_sort ts ≡ statement_sort d
 statement_begins (var d) = declared_sort d ∙ sort_var refl
 statement_begins (val d) = declared_sort d ∙ sort_val refl
 statement_begins (assign n h hn i how d c) = sort_name hn
 statement_begins (if w h b k l) = sort_if h
 statement_begins (while w h b k) = sort_while h
 statement_begins (for w o n a s c hw ho hn ha hs b hc k) = sort_for hw
-
--- what is left begins with no `else`; and it is empty or begins with `}`
-abbrev pub NoElse : List Lexeme → Type 0
-NoElse left = head_sort left ≡ an_else → ⊥
-
-abbrev pub Ends : List Lexeme → Type 0
-Ends left = head_sort left ≡ an_end
 
 -- what ends with `}` or the tokens is no `else`, a statement is neither, and a body before an end is no `else`
 pub ends_no_else : (left : List Lexeme) → Ends left → NoElse left
@@ -115,7 +109,7 @@ begins_no_end : {A : Type 0} {ts left : List Lexeme} {s : Statement} → IsState
 begins_no_end (var d) h = clash a_var an_end (statement_begins (var d)) h refl
 begins_no_end d h = clash (statement_sort d) an_end (statement_begins d) h refl
 
-body_no_else : {ts left : List Lexeme} {b : Body} → IsBody ts b left → Ends left → NoElse ts
+pub body_no_else : {ts left : List Lexeme} {b : Body} → IsBody ts b left → Ends left → NoElse ts
 body_no_else (no_statements {left}) ends = ends_no_else left ends
 body_no_else (statements d b) ends = begins_no_else d
 

@@ -5,13 +5,14 @@ use Rattle.liszt_lexer.specs.declared.token.TokenKind.TheVariants.{Name as NameT
 use Rattle.liszt_tree.specs.declared.tree.How.{How}
 use Rattle.liszt_tree.specs.Tree.{Expression, Body, MainItem, MainField, MainVar, MainAssign, MainIf, MainWhile, MainFor, Print, Main, no_item, item}
 use Rattle.liszt_parser.specs.Grammar.{Lexeme, any, how_of, kind_of, whole_of, field_word, var_word, if_word, else_word, while_word, for_word, print_word, IsExpression, IsBracketed, Closes, IsDeclared, IsItem, main_field, main_var, main_assign, main_if, main_while, main_for, print, IsMain, no_items, items, IsMainBlock, main_block, IsMainElse, no_main_else, main_else, Derives}
-use Rattle.liszt_parser.proofs.Sorts.{Sort, a_name, a_field, a_var, an_if, an_else, a_while, a_for, a_print, an_end, sort_name, sort_field, sort_var, sort_if, sort_else, sort_while, sort_for, sort_print, sort_end, head_sort, clash}
+use Rattle.liszt_parser.specs.Sorts.{Ends, NoElse, Sort, a_field, a_for, a_name, a_print, a_var, a_while, an_else, an_end, an_if, head_sort}
+use Rattle.liszt_parser.proofs.Sorts.{sort_name, sort_field, sort_var, sort_if, sort_else, sort_while, sort_for, sort_print, sort_end, clash}
 use Rattle.liszt_parser.proofs.OneExpression.{one_bracketed}
-use Rattle.liszt_parser.proofs.OneStatement.{same₂, same₃, same₄, same_tail, same_some, one_closed, one_declared, declared_sort, NoElse, Ends, ends_no_else, BlockAgrees, one_block}
+use Rattle.liszt_parser.proofs.OneStatement.{same₂, same₃, same₄, same_tail, same_some, one_closed, one_declared, declared_sort, ends_no_else, BlockAgrees, one_block}
 
 -- HOW ITEMS BEGIN
 -- the sort of the first token of an item
-abbrev item_sort : {ts left : List Lexeme} {i : MainItem} → IsItem ts i left → Sort
+abbrev pub item_sort : {ts left : List Lexeme} {i : MainItem} → IsItem ts i left → Sort
 item_sort (main_field w n d k s hw hn hd hk hs e c) = a_field
 item_sort (main_var d) = a_var
 item_sort (main_assign n h hn i d c) = a_name
@@ -20,7 +21,7 @@ item_sort (main_while w h b k) = a_while
 item_sort (main_for w o n a k p m q c hw ho hn ha hk hp hm hq hc b) = a_for
 item_sort (print w h d c) = a_print
 
-item_begins : {ts left : List Lexeme} {i : MainItem} (d : IsItem ts i left) → head_sort ts ≡ item_sort d
+pub item_begins : {ts left : List Lexeme} {i : MainItem} (d : IsItem ts i left) → head_sort ts ≡ item_sort d
 item_begins (main_field w n d k s hw hn hd hk hs e c) = sort_field hw
 item_begins (main_var d) = declared_sort d ∙ sort_var refl
 item_begins (main_assign n h hn i d c) = sort_name hn
@@ -38,7 +39,7 @@ item_no_end : {A : Type 0} {ts left : List Lexeme} {i : MainItem} → IsItem ts 
 item_no_end (main_var d) h = clash a_var an_end (item_begins (main_var d)) h refl
 item_no_end d h = clash (item_sort d) an_end (item_begins d) h refl
 
-main_no_else : {ts left : List Lexeme} {m : Main} → IsMain ts m left → Ends left → NoElse ts
+pub main_no_else : {ts left : List Lexeme} {m : Main} → IsMain ts m left → Ends left → NoElse ts
 main_no_else (no_items {left}) ends = ends_no_else left ends
 main_no_else (items d k) ends = item_no_else d
 
@@ -140,7 +141,7 @@ else_agrees w h one m' has' left' (main_else w' h' k') f' = let a = one m' left'
 
 -- ALL ITEMS
 mutual
-  one_item : {ts left : List Lexeme} {i : MainItem} → IsItem ts i left → NoElse left → ItemAgrees ts i left
+  pub one_item : {ts left : List Lexeme} {i : MainItem} → IsItem ts i left → NoElse left → ItemAgrees ts i left
   one_item (main_field w n d k s hw hn hd hk hs e c) f = field_agrees w n d k s hw hk e c
   one_item (main_var d) f = var_agrees d
   one_item (main_assign n h hn i d c) f = assign_agrees n h hn i d c
@@ -149,11 +150,11 @@ mutual
   one_item (main_for w o n a k p m q c hw ho hn ha hk hp hm hq hc b) f = for_agrees w o n a k p m q c hw hk (one_block b)
   one_item (print w h d c) f = print_agrees w h d c
 
-  one_main : {ts left : List Lexeme} {m : Main} → IsMain ts m left → Ends left → MainAgrees ts m left
+  pub one_main : {ts left : List Lexeme} {m : Main} → IsMain ts m left → Ends left → MainAgrees ts m left
   one_main (no_items {left}) ends = no_items_agree left ends
   one_main (items d k) ends = items_agree d (one_item d (main_no_else k ends)) (one_main k ends)
 
-  one_main_block : {ts left : List Lexeme} {m : Main} → IsMainBlock ts m left → MainBlockAgrees ts m left
+  pub one_main_block : {ts left : List Lexeme} {m : Main} → IsMainBlock ts m left → MainBlockAgrees ts m left
   one_main_block (main_block o c h k h') = block_agrees o c (one_main k (sort_end h'))
 
   one_main_else : {ts left : List Lexeme} {m : Main} {has : Bool} → IsMainElse ts m has left → NoElse left → MainElseAgrees ts m has left

@@ -13,7 +13,7 @@ use Rattle.liszt_parser.specs.Grammar.{Lexeme, Rank, chain, comparison, prefixed
 use Rattle.liszt_parser.specs.Grammar.{open_bracket, close_bracket, open_brace, close_brace, comma, semicolon, colon, arrow, set_to, field_word, if_word, else_word, while_word, for_word, print_word, mesh_word}
 use Rattle.liszt_parser.proofs.RoundTripFronts.{IsQuiet, IsOperator, ShallowIn, no_front}
 use Rattle.liszt_parser.proofs.RoundTripKinds.{IsLead, opening, closing, opening_brace, closing_brace, minus_operator, bang_operator, quiet_name, name_atom, number_atom, name_caller, word_caller, word_lead, fun_caller, kind_lead, whole_caller, set_caller, sign_infix, rel_infix, how_lead, quiet_of, infix_of, lead_of}
-use Rattle.liszt_parser.proofs.Sorts.{level_strength, rank_strength}
+use Rattle.liszt_parser.specs.Sorts.{level_strength, rank_strength}
 use Rattle.liszt_parser.proofs.RoundTripSegments.{Entry, Anywhere, AsLoose, AsOperand, AsAtom, Segment, Operand, LinkList, IsAtom, IsInfix, IsOpening, IsClosing, IsCaller, IsOpeningBrace, IsClosingBrace, IsHead, no_head, one_head, nothing, an_atom, an_operator, in_brackets as bracketed_part, weaker, no_link, a_link, a_chain, then_line, then_part, then_end, before_part, before_loose, before_line, as_part, braces}
 
 -- HOW DEEP the canonical text of a tree goes: brackets, braces and prefix operators

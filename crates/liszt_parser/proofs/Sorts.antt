@@ -1,45 +1,15 @@
 -- What a token begins or goes on with, by its kind: its sort, and its strength as an operator.
-use Rattle.std.proofs.Common.{◌≡◌, ℕ, ◌<◌, ◌==◌, ℤ, false, List, [], ◌∷◌, Option, Some, None, sym, ap, ◌∙◌, arith}
+use Rattle.std.proofs.Common.{◌≡◌, ℕ, ◌==◌, ℤ, false, List, Some, sym, ap, ◌∙◌, arith}
 use Rattle.std.proofs.lemmas.Bool.Decides.{nat_tests}
 use Rattle.liszt_lexer.specs.declared.token.TokenKind.{TokenKind}
-use Rattle.liszt_lexer.specs.declared.token.TokenKind.TheVariants.{Name as NameToken, Number as NumberToken, Word, Symbol, MinSet, MaxSet}
+use Rattle.liszt_lexer.specs.declared.token.TokenKind.TheVariants.{Name as NameToken, Number as NumberToken, Symbol}
 use Rattle.liszt_tree.specs.declared.tree.Fun.{Fun}
 use Rattle.liszt_tree.specs.declared.tree.Level.{Level}
 use Rattle.liszt_tree.specs.declared.tree.Level.TheVariants.{Or, And, Sum, Product}
 use Rattle.liszt_tree.specs.declared.tree.Rel.{Rel}
 use Rattle.liszt_tree.specs.declared.tree.Sign.{Sign}
-use Rattle.liszt_parser.specs.Grammar.{Lexeme, Rank, chain, comparison, prefixed, alone, any, look_up, fun_of, sign_of, rel_of, open_bracket, close_bracket, close_brace, comma, minus, bang, field_word, var_word, val_word, if_word, else_word, while_word, for_word, print_word, towards_word, Closes, by_semicolon, by_brace, by_end}
-
--- what a production begins with
-pub data Sort : Type 0 where
-  a_number : ℤ → Sort
-  a_call : Fun → Sort
-  a_name a_towards an_open a_minus a_bang a_field a_var a_val an_if an_else a_while a_for a_print an_end another : Sort
-
--- no sort of its own is another one
-sort_or : Option Sort → Sort
-sort_or (Some s) = s
-sort_or None = another
-
--- the words and the symbols with a sort of their own, by place
-abbrev word_sorts : List (ℕ × Sort)
-word_sorts =
-    (0, a_field) ∷ (1, a_var) ∷ (2, a_val) ∷ (3, an_if) ∷ (4, an_else) ∷ (5, a_while) ∷ (6, a_for) ∷ (7, a_print) ∷ (20, a_towards) ∷ []
-
-abbrev symbol_sorts : List (ℕ × Sort)
-symbol_sorts = (0, an_open) ∷ (3, an_end) ∷ (17, a_minus) ∷ (21, a_bang) ∷ []
-
-sort_by : Option Fun → TokenKind → Sort
-sort_by (Some fun) kind = a_call fun
-sort_by None NameToken = a_name
-sort_by None (NumberToken n) = a_number n
-sort_by None (Word place) = sort_or (look_up word_sorts place)
-sort_by None (Symbol place) = sort_or (look_up symbol_sorts place)
-sort_by None MinSet = another
-sort_by None MaxSet = another
-
-pub sort_of : TokenKind → Sort
-sort_of kind = sort_by (fun_of kind) kind
+use Rattle.liszt_parser.specs.Grammar.{Lexeme, any, fun_of, sign_of, rel_of, open_bracket, close_bracket, close_brace, comma, minus, bang, field_word, var_word, val_word, if_word, else_word, while_word, for_word, print_word, towards_word, Closes, by_semicolon, by_brace, by_end}
+use Rattle.liszt_parser.specs.Sorts.{Sort, Stops, a_bang, a_call, a_field, a_for, a_minus, a_name, a_number, a_print, a_towards, a_val, a_var, a_while, an_else, an_end, an_if, an_open, another, level_strength, sort_by, sort_of, sort_or, strength, strength_or}
 
 -- the sort of each kind of token that begins a production
 pub sort_number : {kind : TokenKind} {n : ℤ} → kind ≡ NumberToken n → sort_of kind ≡ a_number n
@@ -106,11 +76,6 @@ pub sort_end : {kind : TokenKind} → kind ≡ close_brace → sort_of kind ≡ 
 unfolding sort_of sort_by sort_or
 sort_end e = ap sort_of e
 
--- the sort of the first token
-abbrev pub head_sort : List Lexeme → Sort
-head_sort [] = an_end
-head_sort (t ∷ ts) = sort_of t.kind
-
 -- a number for each sort, and that two sorts of different numbers are not both the first token's
 abbrev pub code : Sort → ℕ
 code (a_number n) = 0
@@ -133,42 +98,6 @@ code another = 16
 
 pub clash : {A : Type 0} {s : Sort} (a b : Sort) → s ≡ a → s ≡ b → (code a == code b) ≡ false → A
 clash a b is is' differ = let same : code a ≡ code b = ap code (sym is ∙ is') in absurd (grind (arith, nat_tests))
-
--- the strength of a token as an operator behind an expression, 0 for none
-strength_or : Option ℕ → ℕ
-strength_or (Some n) = n
-strength_or None = 0
-
--- the operators and the opening bracket, by place, the loosest 1
-abbrev strengths : List (ℕ × ℕ)
-strengths =
-    (0, 9) ∷ (15, 1) ∷ (14, 2) ∷ (8, 3) ∷ (9, 3) ∷ (10, 3) ∷ (11, 3) ∷ (12, 3) ∷ (13, 3) ∷
-    (16, 4) ∷ (17, 4) ∷ (18, 5) ∷ (19, 5) ∷ (20, 5) ∷ []
-
-pub strength : TokenKind → ℕ
-strength (Symbol place) = strength_or (look_up strengths place)
-strength _ = 0
-
-abbrev pub strength_at : List Lexeme → ℕ
-strength_at [] = 0
-strength_at (t ∷ ts) = strength t.kind
-
--- the strength of the operators of each level, and of what a rank is made of
-abbrev pub level_strength : Level → ℕ
-level_strength Or = 1
-level_strength And = 2
-level_strength Sum = 4
-level_strength Product = 5
-
-abbrev pub rank_strength : Rank → ℕ
-rank_strength (chain level) = level_strength level
-rank_strength comparison = 3
-rank_strength prefixed = 6
-rank_strength alone = 7
-
--- what is left doesn't go on with an expression of the rank
-abbrev pub Stops : Rank → List Lexeme → Type 0
-Stops rank left = strength_at left < rank_strength rank
 
 -- an operator of a level has its strength, a comparison 3
 pub sign_strength : (level : Level) (kind : TokenKind) (s : Sign) → sign_of level kind ≡ Some s → strength kind ≡ level_strength level

@@ -2,9 +2,13 @@ pub mod CaseTexts
 pub mod Cases
 pub mod Depth
 pub mod Grammar
+pub mod Lies
 pub mod Nesting
 pub mod Operands
 pub mod ParseFault
-pub mod PlainProgram
-pub mod PlainReading
+pub mod Parsed
+pub mod Productions
 pub mod Programs
+pub mod Reading
+pub mod Sorts
+pub mod Sources

@@ -10,13 +10,6 @@ ghost use Rattle.liszt_parser.specs.Grammar.{Lexeme, lexemes, Derives};
 ghost use Rattle.liszt_parser.specs.ParseFault.{IsParseFault, IsShallow};
 ghost use Rattle.liszt_tree.specs.Canonical.{canonical};
 ghost use Rattle.liszt_tree.specs.Tree.{Main, Same, main_nodes};
-ghost use Rattle.liszt_parser.specs.declared.plain.Plain.{Plain};
-ghost use Rattle.liszt_parser.specs.PlainProgram.{IsPlainProgram};
-
-/// A text spells one program at most.
-pub fn one_program()
-    ensures { (text : List ℕ) (p q : Plain) → IsPlainProgram text p → IsPlainProgram text q → p ≡ q }
-{}
 
 /// Tokens have one tree at most.
 pub fn one_tree()
@@ -45,4 +38,9 @@ pub fn canonical_reads_back()
     ensures no_deeper { (text : List ℕ) (tokens : List Token) (tree : Main) → tokens_of text ≡ Ok tokens → Derives (lexemes text tokens) tree
         → IsShallow (lexemes text tokens) (length (lexemes text tokens)) → (tokens' : List Token) → tokens_of (canonical tree) ≡ Ok tokens'
         → IsShallow (lexemes (canonical tree) tokens') (length (lexemes (canonical tree) tokens')) }
+{}
+
+/// Tokens have a fault, or none: there is always an answer.
+pub fn some_fault()
+    ensures { (ts : List Lexeme) (ending : Place) → (fault : Option ProgramFault) × IsParseFault ts ending fault }
 {}

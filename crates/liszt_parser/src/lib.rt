@@ -1,14 +1,21 @@
-//! The reader of the plain program form: one field on cells, and one loop that adds a number to it at each cell. Beside it
-//! stand the definitions of the whole grammar, of depth and of faults, with their laws; their parser comes next.
+//! The parser: the tree of a text's tokens, or their fault; and the definitions of grammar, depth and faults, with their laws.
 #![tactic(auto)]
 
 mod cases;
+mod choices;
+mod expression;
 mod fault_cases;
+mod item;
+mod kinds;
 pub mod laws;
 mod nesting;
 mod operand;
-mod plain;
+mod parser;
+mod program;
 mod program_cases;
+mod source;
+mod statement;
+mod tokens;
 mod word_cases;
 
-pub use plain::{Plain, read_plain};
+pub use parser::parse;

@@ -1,6 +1,6 @@
 //! How deep a program is at its tokens: the brackets and braces that are open, and the prefix operators whose operand
 //! hasn't ended.
-ghost use Rattle.std.specs.Prelude.{◌≡◌, ◌<◌, ◌+◌, ◌^◌, ◌∷◌, ◌++◌, [], List, IfOk, OnOk, length, nat_lt};
+ghost use Rattle.std.specs.Prelude.{◌≡◌, ◌<◌, ◌+◌, ◌^◌, ◌∷◌, ◌++◌, [], List, IfOk, OnOk, nat_lt};
 ghost use Rattle.liszt_parser.specs.Depth.{depth};
 ghost use Rattle.liszt_parser.specs.Grammar.{Lexeme, lexemes};
 ghost use Rattle.liszt_parser.specs.Nesting.{IsNesting, IsFirstDeep};
@@ -51,7 +51,6 @@ impl Nesting {
 
 /// The first token at which the program is too deep, if there is one.
 pub fn first_deep(alloc: Global, text: &[u8], tokens: &[Token]) -> Result<Option<usize>, NoMemory>
-    requires { length tokens.now < 2 ^ 32 }
     ensures { IfOk result (IsFirstDeep (lexemes text.now tokens.now)) }
 {
     let mut nesting = Nesting::new(alloc);

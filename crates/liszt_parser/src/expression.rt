@@ -1,0 +1,317 @@
+//! Expressions, a function for each rank. A chain is read by a loop, and brackets and prefix operators by recursion.
+
+ghost use Rattle.std.specs.Prelude.{◌≡◌, ◌≤◌, length, drop, map};
+ghost use Rattle.std.specs.Option.{option_map};
+ghost use Rattle.liszt_tree.specs.declared.tree.Level.TheVariants.{Sum};
+ghost use Rattle.liszt_tree.specs.Tree as Tree;
+ghost use Rattle.liszt_tree.specs.Tree.{expression as tree, links_of};
+ghost use Rattle.liszt_parser.specs.Grammar.{any, alone as alone_rank, chain as chain_rank, comparison as comparison_rank, operand as operand_rank, prefixed as prefixed_rank};
+ghost use Rattle.liszt_parser.specs.Productions as Productions;
+ghost use Rattle.liszt_parser.specs.Productions.{arguments, brackets, calls, denials, expressions, names, negations, numbers, orientations, seconds};
+ghost use Rattle.liszt_parser.specs.Reading.{Outcome, Settled};
+ghost use Rattle.liszt_parser.specs.Sorts.{Stops};
+ghost use Rattle.liszt_parser.specs.Sources.{all_of, seen_as};
+
+use crate::choices::{digits, fun, rel, sign};
+use crate::kinds::{BANG, CLOSE_BRACKET, COMMA, MINUS, OPEN_BRACKET, TOWARDS};
+use crate::source::{Parsed, Source};
+use crate::tokens::push;
+use liszt_base::{Place, Refused};
+use liszt_lexer::{Token, TokenKind};
+use liszt_tree::{Expr, Level, Link, LinkList, Rel};
+use sqlite_items::Items;
+
+/// An expression.
+#[cycle(expression)]
+pub(crate) fn expression(source: &Source, at: usize) -> Parsed<Expr>
+    requires { at ≤ length (all_of source.now) }
+    ensures { Outcome 1 (expressions any) tree (all_of source.now) at result }
+{
+    chain(source, at, Level::Or)
+}
+
+/// A chain of a level, or one operand of it.
+#[cycle(expression)]
+fn chain(source: &Source, at: usize, level: Level) -> Parsed<Expr>
+    requires { at ≤ length (all_of source.now) }
+    ensures { Outcome 1 (expressions (chain_rank level)) tree (all_of source.now) at result }
+{
+    let (first, at) = operand(source, at, level)?;
+    let (rest, at) = links(source, at, level)?;
+    if rest.is_empty() {
+        return Ok((first, at));
+    }
+    let first = source.boxed(first)?;
+    Ok((Expr::Chain { level, first, rest }, at))
+}
+
+/// An operand of a chain of a level.
+#[cycle(expression)]
+fn operand(source: &Source, at: usize, level: Level) -> Parsed<Expr>
+    requires { at ≤ length (all_of source.now) }
+    ensures { Outcome 1 (expressions (operand_rank level)) tree (all_of source.now) at result }
+{
+    match level {
+        Level::Or => chain(source, at, Level::And),
+        Level::And => comparison(source, at),
+        Level::Sum => chain(source, at, Level::Product),
+        Level::Product => prefixed(source, at),
+    }
+}
+
+/// The further operands of a chain, each behind its operator.
+#[cycle(expression)]
+fn links(source: &Source, at: usize, level: Level) -> Parsed<LinkList>
+    requires within { at ≤ length (all_of source.now) }
+    requires stops { Stops (operand_rank level) (drop at (all_of source.now)) }
+    ensures { Outcome 0 (Productions.links level) (λ rest. links_of (map (λ l. (l.op, l.place, tree l.arg)) rest)) (all_of source.now) at result }
+{
+    let mut here = at;
+    let mut rest = Items::new(source.alloc());
+    while let Some(((token, op), behind)) = sign(source, here, level) {
+        let (arg, end) = operand(source, behind, level)?;
+        push(
+            &mut rest,
+            Link {
+                op,
+                place: token.place,
+                arg,
+            },
+        )?;
+        here = end;
+    }
+    Ok((rest, here))
+}
+
+/// A comparison of two sums, or one sum.
+#[cycle(expression)]
+fn comparison(source: &Source, at: usize) -> Parsed<Expr>
+    requires { at ≤ length (all_of source.now) }
+    ensures { Outcome 1 (expressions comparison_rank) tree (all_of source.now) at result }
+{
+    let (left, at) = chain(source, at, Level::Sum)?;
+    let (second, at) = compared(source, at)?;
+    let Some((token, rel, right)) = second else {
+        return Ok((left, at));
+    };
+    let left = source.boxed(left)?;
+    let right = source.boxed(right)?;
+    Ok((
+        Expr::Compare {
+            place: token.place,
+            rel,
+            left,
+            right,
+        },
+        at,
+    ))
+}
+
+/// What a sum is compared with, if anything. No comparison is compared.
+#[cycle(expression)]
+fn compared(source: &Source, at: usize) -> Parsed<Option<(Token, Rel, Expr)>>
+    requires within { at ≤ length (all_of source.now) }
+    requires stops { Stops (chain_rank Sum) (drop at (all_of source.now)) }
+    ensures { Outcome 0 seconds (option_map (λ x. ((seen_as source.now x.0, x.1), tree x.2))) (all_of source.now) at result }
+{
+    let Some(((token, relation), behind)) = rel(source, at) else {
+        return Ok((None, at));
+    };
+    let (right, end) = chain(source, behind, Level::Sum)?;
+    match rel(source, end) {
+        None => Ok((Some((token, relation, right)), end)),
+        Some(_) => Err(Refused::Fault(end)),
+    }
+}
+
+/// An expression behind any number of prefix operators.
+#[cycle(expression)]
+fn prefixed(source: &Source, at: usize) -> Parsed<Expr>
+    requires { at ≤ length (all_of source.now) }
+    ensures { Outcome 1 (expressions prefixed_rank) tree (all_of source.now) at result }
+{
+    if source.is(at, MINUS) {
+        return negated(source, at);
+    }
+    if source.is(at, BANG) {
+        return denied(source, at);
+    }
+    alone(source, at)
+}
+
+/// An expression behind `-`.
+#[cycle(expression)]
+fn negated(source: &Source, at: usize) -> Parsed<Expr>
+    requires { at ≤ length (all_of source.now) }
+    ensures { Outcome 1 negations tree (all_of source.now) at result }
+{
+    let (token, at) = source.expect(at, MINUS)?;
+    let (arg, at) = prefixed(source, at)?;
+    let arg = source.boxed(arg)?;
+    Ok((
+        Expr::Neg {
+            place: token.place,
+            arg,
+        },
+        at,
+    ))
+}
+
+/// An expression behind `!`.
+#[cycle(expression)]
+fn denied(source: &Source, at: usize) -> Parsed<Expr>
+    requires { at ≤ length (all_of source.now) }
+    ensures { Outcome 1 denials tree (all_of source.now) at result }
+{
+    let (token, at) = source.expect(at, BANG)?;
+    let (arg, at) = prefixed(source, at)?;
+    let arg = source.boxed(arg)?;
+    Ok((
+        Expr::Not {
+            place: token.place,
+            arg,
+        },
+        at,
+    ))
+}
+
+/// An expression with no operator. No bracket opens behind it.
+#[cycle(expression)]
+fn alone(source: &Source, at: usize) -> Parsed<Expr>
+    requires { at ≤ length (all_of source.now) }
+    ensures { Outcome 1 (expressions alone_rank) tree (all_of source.now) at result }
+{
+    let (e, end) = value(source, at)?;
+    if source.is(end, OPEN_BRACKET) {
+        return Err(Refused::Fault(end));
+    }
+    Ok((e, end))
+}
+
+/// A number, a name, a field, a call or an expression in brackets, whatever is behind it.
+#[cycle(expression)]
+fn value(source: &Source, at: usize) -> Parsed<Expr>
+    requires { at ≤ length (all_of source.now) }
+    ensures { Settled (expressions alone_rank) tree (all_of source.now) at result }
+{
+    if source.is(at, TokenKind::Name) {
+        return name(source, at);
+    }
+    if source.is(at, TOWARDS) {
+        return towards(source, at);
+    }
+    if source.is(at, OPEN_BRACKET) {
+        return bracketed(source, at);
+    }
+    match fun(source, at) {
+        Some(_) => call(source, at),
+        None => number(source, at),
+    }
+}
+
+/// A number.
+fn number(source: &Source, at: usize) -> Parsed<Expr>
+    requires { at ≤ length (all_of source.now) }
+    ensures { Outcome 1 numbers tree (all_of source.now) at result }
+{
+    match digits(source, at) {
+        Some(((token, value), end)) => Ok((literal(token.place, value), end)),
+        None => Err(Refused::Fault(at)),
+    }
+}
+
+/// A number as an expression.
+fn literal(place: Place, value: i64) -> Expr
+    ensures { tree result ≡ Tree.Number place value }
+{
+    Expr::Number { place, value }
+}
+
+/// A name, or a field at an element.
+#[cycle(expression)]
+fn name(source: &Source, at: usize) -> Parsed<Expr>
+    requires { at ≤ length (all_of source.now) }
+    ensures { Outcome 1 names tree (all_of source.now) at result }
+{
+    let (token, at) = source.expect(at, TokenKind::Name)?;
+    let (arg, at) = argument(source, at)?;
+    let (place, name) = (token.place, source.name(token)?);
+    let Some(arg) = arg else {
+        return Ok((Expr::Name { place, name }, at));
+    };
+    let arg = source.boxed(arg)?;
+    Ok((Expr::Field { place, name, arg }, at))
+}
+
+/// An argument in brackets, if there is one. No bracket opens behind it.
+#[cycle(expression)]
+pub(crate) fn argument(source: &Source, at: usize) -> Parsed<Option<Expr>>
+    requires { at ≤ length (all_of source.now) }
+    ensures { Outcome 0 arguments (option_map tree) (all_of source.now) at result }
+{
+    if !source.is(at, OPEN_BRACKET) {
+        return Ok((None, at));
+    }
+    let (e, end) = bracketed(source, at)?;
+    if source.is(end, OPEN_BRACKET) {
+        return Err(Refused::Fault(end));
+    }
+    Ok((Some(e), end))
+}
+
+/// A function of an element.
+#[cycle(expression)]
+fn call(source: &Source, at: usize) -> Parsed<Expr>
+    requires { at ≤ length (all_of source.now) }
+    ensures { Outcome 1 calls tree (all_of source.now) at result }
+{
+    let Some(((token, fun), at)) = fun(source, at) else {
+        return Err(Refused::Fault(at));
+    };
+    let (arg, at) = bracketed(source, at)?;
+    let arg = source.boxed(arg)?;
+    Ok((
+        Expr::Call {
+            place: token.place,
+            fun,
+            arg,
+        },
+        at,
+    ))
+}
+
+/// An orientation of an element, towards another.
+#[cycle(expression)]
+fn towards(source: &Source, at: usize) -> Parsed<Expr>
+    requires { at ≤ length (all_of source.now) }
+    ensures { Outcome 1 orientations tree (all_of source.now) at result }
+{
+    let (word, at) = source.expect(at, TOWARDS)?;
+    let (_, at) = source.expect(at, OPEN_BRACKET)?;
+    let (arg, at) = expression(source, at)?;
+    let (_, at) = source.expect(at, COMMA)?;
+    let (to, at) = expression(source, at)?;
+    let (_, at) = source.expect(at, CLOSE_BRACKET)?;
+    let arg = source.boxed(arg)?;
+    let to = source.boxed(to)?;
+    Ok((
+        Expr::Towards {
+            place: word.place,
+            arg,
+            to,
+        },
+        at,
+    ))
+}
+
+/// An expression in brackets.
+#[cycle(expression)]
+pub(crate) fn bracketed(source: &Source, at: usize) -> Parsed<Expr>
+    requires { at ≤ length (all_of source.now) }
+    ensures { Outcome 1 brackets tree (all_of source.now) at result }
+{
+    let (_, at) = source.expect(at, OPEN_BRACKET)?;
+    let (e, at) = expression(source, at)?;
+    let (_, at) = source.expect(at, CLOSE_BRACKET)?;
+    Ok((e, at))
+}
