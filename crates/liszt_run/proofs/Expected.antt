@@ -3,14 +3,24 @@ use Rattle.std.proofs.Common.{◌≡◌, ℕ, inl, inr, List, length, Option, So
 use Rattle.std.specs.Io.KnownBytes.{append_known}
 use Rattle.liszt_base.specs.declared.answers.Input.{Input}
 use Rattle.liszt_base.specs.declared.answers.Input.TheVariants.{Program, Node, Ele}
-use Rattle.liszt_parser.specs.declared.plain.Plain.{Plain}
+use Rattle.liszt_base.specs.declared.answers.Place.{Place}
+use Rattle.liszt_base.specs.declared.answers.ProgramFault.{ProgramFault}
+use Rattle.liszt_lexer.specs.Lexer.{tokens_of, end_of}
+use Rattle.liszt_lexer.specs.declared.token.Token.{Token}
+use Rattle.liszt_tree.specs.Tree.{Main}
+use Rattle.liszt_parser.specs.Grammar.{Lexeme, lexemes, Derives}
+use Rattle.liszt_parser.specs.ParseFault.{IsParseFault, IsShallow}
+use Rattle.liszt_parser.proofs.OneTree.{one_tree_derived}
+use Rattle.liszt_parser.proofs.OneFault.{one as one_fault}
+use Rattle.liszt_parser.proofs.SomeFault.{some_fault}
+use Rattle.liszt_run.specs.Simple.{Simple, IsSimple}
+use Rattle.liszt_run.specs.SimpleReading.{simple_at}
+use Rattle.liszt_run.proofs.Simples.{found, again}
 use Rattle.liszt_base.specs.declared.mesh.PointTable.{PointTable}
 use Rattle.liszt_base.specs.MeshLists.{MeshLists}
-use Rattle.liszt_run.specs.Endings.{done_text, file_limit, too_long, mesh_ending}
+use Rattle.liszt_run.specs.Endings.{done_text, file_limit, too_long, program_ending, mesh_ending}
 use Rattle.liszt_io.specs.Causes.{Rose}
 use Rattle.liszt_io.specs.Shelves.{Files, file, Tally}
-use Rattle.liszt_parser.specs.PlainReading.{plain_at}
-use Rattle.liszt_parser.proofs.PlainLaws.{one_plain_program, taken_plain, again_plain}
 use Rattle.liszt_base.specs.declared.answers.MeshFault.{MeshFault}
 use Rattle.liszt_base.specs.declared.mesh.Point.{Point}
 use Rattle.text_scan.specs.Rows.{text_rows}
@@ -18,9 +28,9 @@ use Rattle.tet_reader.specs.Faults.{node_fault, cells_fault}
 use Rattle.tet_reader.proofs.Lists.{one_point_list, node_takes, node_again}
 use Rattle.tet_reader.proofs.EleReading.{mesh_takes_over, mesh_again_over, one_mesh_over}
 use Rattle.liszt_run.specs.declared.ended.Ended.{Ended}
-use Rattle.liszt_run.specs.declared.ended.Ended.TheVariants.{Done, Usage, Later, Mesh, Limit, ReadFault, WriteFault, NoMemory}
+use Rattle.liszt_run.specs.declared.ended.Ended.TheVariants.{Done, Usage, Later, Program as OfProgram, Mesh, Limit, ReadFault, WriteFault, NoMemory}
 use Rattle.liszt_run.specs.Commands.{command_of, SeqCommand}
-use Rattle.liszt_run.specs.Expected.{Outcome, refusal, Within, Follows, ProgramTells, NodeTells, EleTells, TakesIn, Finishes, TakesCells, TakesPoints, Seq, ComesTo, Expected}
+use Rattle.liszt_run.specs.Expected.{Outcome, refusal, Within, Follows, IsProgramFault, ProgramTells, NodeTells, EleTells, TakesIn, Finishes, TakesCells, TakesPoints, Seq, ComesTo, Expected}
 use Rattle.liszt_run.specs.Answers.{IsLost, EndsSo, Answers, HasCauses, IsOutcome}
 
 -- One outcome
@@ -55,11 +65,36 @@ one_taken {A} files input name Tells GoesOn one rest a b (inr p) (inr q) =
     let told : p.1 ≡ q.1 = one_within input Tells one q.0 p.1 q.1 (subst (λ (l : List ℕ). Within input Tells l p.1) bytes p.3) q.3 in
     one_follows GoesOn q.1 rest a b (subst (λ (r : Result A Ended). Follows GoesOn r a) told p.4) q.4
 
+-- the tokens of a text are one list or one fault
+same_tokens : (bytes : List ℕ) (ts us : List Token) → tokens_of bytes ≡ Ok ts → tokens_of bytes ≡ Ok us → ts ≡ us
+same_tokens bytes ts us e f = cc
+
+abbrev IsFaultOf : List ℕ → List Token → Option ProgramFault → Type 0
+IsFaultOf bytes ts fault = IsParseFault (lexemes bytes ts) (end_of bytes) fault
+
+one_parse : (bytes : List ℕ) (ts us : List Token) (f g : Option ProgramFault) → tokens_of bytes ≡ Ok ts → tokens_of bytes ≡ Ok us
+    → IsFaultOf bytes ts f → IsFaultOf bytes us g → f ≡ g
+one_parse bytes ts us f g e e' h h' =
+    one_fault (lexemes bytes us) (end_of bytes) f g (subst (λ (l : List Token). IsFaultOf bytes l f) (same_tokens bytes ts us e e') h) h'
+
+one_program_fault : (bytes : List ℕ) (f g : ProgramFault) → IsProgramFault bytes f → IsProgramFault bytes g → f ≡ g
+one_program_fault bytes f g (inl e) (inl e') = cc
+one_program_fault bytes f g (inl e) (inr h') = let is = h'.1 in absurd cc
+one_program_fault bytes f g (inr h) (inl e') = let is = h.1 in absurd cc
+one_program_fault bytes f g (inr h) (inr h') = let same = one_parse bytes h.0 h'.0 (Some f) (Some g) h.1 h'.1 h.2 h'.2 in cc
+
+no_program_fault : {A : Type 0} (bytes : List ℕ) (tree : Main) (f : ProgramFault) → ProgramTells bytes (Ok tree) → IsProgramFault bytes f → A
+no_program_fault bytes tree f h (inl e) = let is = h.1 in absurd cc
+no_program_fault bytes tree f h (inr h') =
+    let same = one_parse bytes h.0 h'.0 None (Some f) h.1 h'.1 ((tree, h.2), h.3) h'.2 in absurd cc
+
 one_program : TellsOne ProgramTells
-one_program bytes (Ok p) (Ok q) h i = ap Ok (one_plain_program bytes p q h i)
-one_program bytes (Ok p) (Err e) h i = absurd (i.1 p h)
-one_program bytes (Err e) (Ok q) h i = absurd (h.1 q i)
-one_program bytes (Err e) (Err f) h i = ap Err (h.0 ∙ sym i.0)
+one_program bytes (Ok p) (Ok q) h i =
+    let same = same_tokens bytes h.0 i.0 h.1 i.1 in
+    ap Ok (one_tree_derived (lexemes bytes i.0) p q (subst (λ (l : List Token). Derives (lexemes bytes l) p) same h.2) i.2)
+one_program bytes (Ok p) (Err e) h i = no_program_fault bytes p i.0 h i.1
+one_program bytes (Err e) (Ok q) h i = no_program_fault bytes q h.0 i h.1
+one_program bytes (Err e) (Err f) h i = ap Err (h.2 ∙ (ap program_ending (one_program_fault bytes h.0 i.0 h.1 i.1) ∙ sym i.2))
 
 same_fault : (o : Option MeshFault) (f g : MeshFault) → o ≡ Some f → o ≡ Some g → f ≡ g
 same_fault o f g p q = cc
@@ -82,12 +117,21 @@ one_ele table bytes (Err e) (Ok n) h i = let none = mesh_again_over table (text_
 one_ele table bytes (Err e) (Err f) h i =
     ap Err (h.2 ∙ (ap mesh_ending (same_fault (cells_fault (length table.list) table.base (text_rows bytes)) h.0 i.0 h.1 i.1) ∙ sym i.2))
 
+one_simple : (tree : Main) (s t : Simple) → IsSimple tree s → IsSimple tree t → s ≡ t
+one_simple tree s t h i = let a = again tree s h in let b = again tree t i in cc
+
+one_finish : (tree : Main) (mesh : MeshLists) → IsOne (Finishes tree mesh)
+one_finish tree mesh a b (inl h) (inl i) = h.2 ∙ (ap (λ s. record { ended = Done; text = done_text s mesh }) (one_simple tree h.0 i.0 h.1 i.1) ∙ sym i.2)
+one_finish tree mesh a b (inl h) (inr i) = absurd (i.0 h.0 h.1)
+one_finish tree mesh a b (inr h) (inl i) = absurd (h.0 i.0 i.1)
+one_finish tree mesh a b (inr h) (inr i) = h.1 ∙ sym i.1
+
 one_seq : (files : Files) (c : SeqCommand) → IsOne (Seq (λ n. file files n ≡ None) files c)
 one_seq files c =
     let Lost : List ℕ → Type 0 = λ n. file files n ≡ None in
     one_taken files Program c.program ProgramTells (TakesPoints Lost files c) one_program (λ program.
     one_taken files Node c.node NodeTells (TakesCells Lost files c program) one_node (λ table.
-    one_taken files Ele c.ele (EleTells table) (Finishes program) (one_ele table) (λ mesh a b p q. p ∙ sym q)))
+    one_taken files Ele c.ele (EleTells table) (Finishes program) (one_ele table) (one_finish program)))
 
 one_command : (files : Files) (o : Option SeqCommand)
     → IsOne (λ outcome. MatchOption o (outcome ≡ refusal Usage) (λ c. Seq (λ n. file files n ≡ None) files c outcome))
@@ -143,6 +187,7 @@ pub complete : (words : List (List ℕ)) (files : Files) (before now : Tally) (s
 complete words files before now shelf shelf' sink sink' old new Done outcome a c x none whole = ends_so words files before now old new Done outcome none a x
 complete words files before now shelf shelf' sink sink' old new Usage outcome a c x none whole = ends_so words files before now old new Usage outcome none a x
 complete words files before now shelf shelf' sink sink' old new Later outcome a c x none whole = ends_so words files before now old new Later outcome none a x
+complete words files before now shelf shelf' sink sink' old new (OfProgram f) outcome a c x none whole = ends_so words files before now old new (OfProgram f) outcome none a x
 complete words files before now shelf shelf' sink sink' old new (Mesh f) outcome a c x none whole = ends_so words files before now old new (Mesh f) outcome none a x
 complete words files before now shelf shelf' sink sink' old new (Limit f) outcome a c x none whole = ends_so words files before now old new (Limit f) outcome none a x
 complete words files before now shelf shelf' sink sink' old new (ReadFault i) outcome a c x none whole = ends_so words files before now old new (ReadFault i) outcome none a x
@@ -150,7 +195,6 @@ complete words files before now shelf shelf' sink sink' old new WriteFault outco
 complete words files before now shelf shelf' sink sink' old new NoMemory outcome a c x none whole = inr refl
 
 -- There is an outcome.
-
 -- bytes come to something
 abbrev TellsSome : {A : Type 0} → (List ℕ → Result A Ended → Type 0) → Type 0
 TellsSome {A} Tells = (bytes : List ℕ) → (told : Result A Ended) × Tells bytes told
@@ -177,11 +221,21 @@ some_taken files input name Tells GoesOn (Some bytes) some rest is =
     (more.0, inr (bytes, told.0, is, told.1, more.1))
 
 some_program : TellsSome ProgramTells
-some_program bytes = go (plain_at bytes) refl
-  where
-    go : (read : Option Plain) → plain_at bytes ≡ read → (told : Result Plain Ended) × ProgramTells bytes told
-    go (Some p) is = (Ok p, taken_plain bytes p is)
-    go None is = (Err Later, (refl, λ p s. let again = again_plain bytes p s in cc))
+some_program bytes = go (tokens_of bytes) refl where
+  at : (ts : List Token) → tokens_of bytes ≡ Ok ts → (fault : Option ProgramFault) → IsFaultOf bytes ts fault
+      → (told : Result Main Ended) × ProgramTells bytes told
+  at ts is None h = (Ok h.0.0, (ts, is, h.0.1, h.1))
+  at ts is (Some fault) h = (Err (program_ending fault), (fault, inr (ts, is, h), refl))
+
+  go : (read : Result (List Token) ProgramFault) → tokens_of bytes ≡ read → (told : Result Main Ended) × ProgramTells bytes told
+  go (Ok ts) is = let f = some_fault (lexemes bytes ts) (end_of bytes) in at ts is f.0 f.1
+  go (Err fault) is = (Err (program_ending fault), (fault, inl is, refl))
+
+some_finish : (tree : Main) (mesh : MeshLists) → (outcome : Outcome) × Finishes tree mesh outcome
+some_finish tree mesh = go (simple_at tree) refl where
+  go : (read : Option Simple) → simple_at tree ≡ read → (outcome : Outcome) × Finishes tree mesh outcome
+  go (Some s) is = (record { ended = Done; text = done_text s mesh }, inl (s, found tree s is, refl))
+  go None is = (refusal Later, inr (λ s h. let a = again tree s h in absurd cc, refl))
 
 some_node : TellsSome NodeTells
 some_node bytes = go (node_fault (text_rows bytes)) refl
@@ -205,7 +259,7 @@ some_command files (Some c) =
     some_taken files Program c.program ProgramTells (TakesPoints Lost files c) (file files c.program) some_program (λ program.
     some_taken files Node c.node NodeTells (TakesCells Lost files c program) (file files c.node) some_node (λ table.
     some_taken files Ele c.ele (EleTells table) (Finishes program) (file files c.ele) (some_ele table)
-    (λ mesh. (record { ended = Done; text = done_text program mesh }, refl))
+    (some_finish program)
     refl) refl) refl
 
 pub some_expected : (words : List (List ℕ)) (files : Files) → (outcome : Outcome) × Expected words files outcome

@@ -1,5 +1,6 @@
 -- The steps by which the inputs are taken in, joined.
 use Rattle.std.proofs.Common.{◌≡◌, ℕ, ◌≤◌, inl, inr, List, [], ◌∷◌, length, Option, Some, None, MatchOption, MatchResult, Result, Ok, Err, ◌<◌, refl, sym, ap, subst, ◌∙◌, arith, ℤ, pos, ◌+ℤ◌, ◌≤ℤ◌, ◌<ℤ◌, ◌⊎◌}
+use Rattle.std.specs.Prelude.{IfOk, FitsSigned}
 use Rattle.std.proofs.lemmas.Int.{ints, to_z-of_z}
 use mir.Syntax.{w64}
 use mir.Val.{to_z, of_z}
@@ -12,14 +13,16 @@ use Rattle.liszt_io.specs.declared.outside.WriteFault.{WriteFault as Unwritten}
 use Rattle.liszt_io.specs.Causes.{HasCause}
 use Rattle.liszt_io.specs.Sinks.{IsFrontTaken, Writes}
 use Rattle.liszt_io.specs.Shelves.{Files, Tally, FailsAt}
-use Rattle.liszt_parser.specs.declared.plain.Plain.{Plain}
+use Rattle.liszt_tree.specs.declared.tree.Program.{Program as RustProgram}
+use Rattle.liszt_tree.specs.Tree.{Main, program_tree}
+use Rattle.liszt_run.specs.Simple.{Simple, IsSmall, IsSimple}
 use Rattle.liszt_run.specs.declared.ended.Ended.{Ended}
-use Rattle.liszt_run.specs.declared.ended.Ended.TheVariants.{Done, Usage, Later, Mesh, Limit, ReadFault, WriteFault, NoMemory}
-use Rattle.liszt_run.specs.declared.inputs.Job.{Job}
+use Rattle.liszt_run.specs.declared.ended.Ended.TheVariants.{Done, Usage, Later, Program as OfProgram, Mesh, Limit, ReadFault, WriteFault, NoMemory}
+use Rattle.liszt_run.specs.declared.job.Job.{Job}
 use Rattle.liszt_run.specs.Commands.{command_of, SeqCommand}
 use Rattle.liszt_run.specs.Endings.{refusal_text, done_text, field_text, too_long}
 use Rattle.liszt_run.specs.Expected.{Outcome, refusal, Within, ProgramTells, NodeTells, EleTells, TakesIn, Finishes, TakesCells, TakesPoints, Seq, ComesTo}
-use Rattle.liszt_run.specs.Answers.{IsLost, Answers, Wrote, HasCauses, HasShelfCause, HasStepCause, IsFileFault, StepGives, Prepares, job_text}
+use Rattle.liszt_run.specs.Answers.{IsLost, Answers, Wrote, HasCauses, HasShelfCause, HasStepCause, IsFileFault, StepGives, MakesJob, Prepares, job_text}
 
 -- From the bytes of an input to what they come to
 
@@ -94,7 +97,7 @@ program_refused words files c before now ended is first =
     refused_goes_on (Seq Lost files c) (ComesTo Lost words files) ended (λ outcome. named Lost words files c outcome is)
     (taken_refused files Program c.program ProgramTells (TakesPoints Lost files c) before now ended first)
 
-pub node_refused : (words : List (List ℕ)) (files : Files) (c : SeqCommand) (program : Plain) (before t now : Tally) (ended : Ended) → command_of words ≡ Some c
+pub node_refused : (words : List (List ℕ)) (files : Files) (c : SeqCommand) (program : Main) (before t now : Tally) (ended : Ended) → command_of words ≡ Some c
     → StepGives files Program c.program ProgramTells before t (Ok program) → StepGives files Node c.node NodeTells t now (Err ended) → Prepares words files before now (Err ended)
 node_refused words files c program before t now ended is first second =
     let Lost : List ℕ → Type 0 = IsLost files before now in
@@ -103,7 +106,7 @@ node_refused words files c program before t now ended is first second =
     (λ outcome h. named Lost words files c outcome is (taken_goes_on Lost files Program c.program ProgramTells (TakesPoints Lost files c) before t program outcome first h))
     (taken_refused files Node c.node NodeTells (TakesCells Lost files c program) before now ended second')
 
-pub ele_refused : (words : List (List ℕ)) (files : Files) (c : SeqCommand) (program : Plain) (table : PointTable) (before t u now : Tally) (ended : Ended) → command_of words ≡ Some c
+pub ele_refused : (words : List (List ℕ)) (files : Files) (c : SeqCommand) (program : Main) (table : PointTable) (before t u now : Tally) (ended : Ended) → command_of words ≡ Some c
     → StepGives files Program c.program ProgramTells before t (Ok program) → StepGives files Node c.node NodeTells t u (Ok table)
     → StepGives files Ele c.ele (EleTells table) u now (Err ended) → Prepares words files before now (Err ended)
 ele_refused words files c program table before t u now ended is first second third =
@@ -116,26 +119,54 @@ ele_refused words files c program table before t u now ended is first second thi
     (taken_refused files Ele c.ele (EleTells table) (Finishes program) before now ended third')
 
 -- the lines of a job are the text of its program on its mesh
-pub job_text_is : (program : Plain) (mesh : MeshLists) (job : Job) → job.name ≡ program.name → job.value ≡ program.first +ℤ program.add → job.mesh ≡ mesh
-    → job_text job ≡ done_text program mesh
-job_text_is program mesh job name value same =
-    ap (λ (n : ℕ). field_text (n ∷ []) (λ _. job.value) (length job.mesh.cells)) name
-    ∙ ap (λ (v : ℤ). field_text (program.name ∷ []) (λ _. v) (length job.mesh.cells)) value
-    ∙ ap (λ (m : MeshLists). field_text (program.name ∷ []) (λ _. program.first +ℤ program.add) (length m.cells)) same
+pub job_text_is : (simple : Simple) (mesh : MeshLists) (name : List ℕ) (value : ℤ) → name ≡ simple.name → value ≡ simple.first +ℤ simple.added
+    → field_text name (λ _. value) (length mesh.cells) ≡ done_text simple mesh
+job_text_is simple mesh name value e f =
+    ap (λ (n : List ℕ). field_text n (λ _. value) (length mesh.cells)) e ∙ ap (λ (v : ℤ). field_text simple.name (λ _. v) (length mesh.cells)) f
 
-pub all_taken : (words : List (List ℕ)) (files : Files) (c : SeqCommand) (program : Plain) (table : PointTable) (mesh : MeshLists) (job : Job) (before t u now : Tally) → command_of words ≡ Some c
+-- what a job that was made, or was not, finishes with
+finished : (tree : Main) (mesh : MeshLists) (job : Job) → MakesJob tree mesh (Ok job)
+    → Finishes tree mesh (record { ended = Done; text = job_text job })
+finished tree mesh job made = inl (made.0, made.1, ap done_with made.2)
+
+unfinished : (Comes : Outcome → Type 0) (tree : Main) (mesh : MeshLists) (ended : Ended) → ((outcome : Outcome) → Finishes tree mesh outcome → Comes outcome)
+    → MakesJob tree mesh (Err ended) → (ended ≡ NoMemory) ⊎ Comes (refusal ended)
+unfinished Comes tree mesh ended comes (inl memory) = inl memory
+unfinished Comes tree mesh ended comes (inr later) = inr (comes (refusal ended) (inr (later.1, ap refusal later.0)))
+
+pub all_taken : (words : List (List ℕ)) (files : Files) (c : SeqCommand) (program : Main) (table : PointTable) (mesh : MeshLists) (made : Result Job Ended) (before t u now : Tally) → command_of words ≡ Some c
     → StepGives files Program c.program ProgramTells before t (Ok program) → StepGives files Node c.node NodeTells t u (Ok table)
-    → StepGives files Ele c.ele (EleTells table) u now (Ok mesh)
-    → job.name ≡ program.name → job.value ≡ program.first +ℤ program.add → job.mesh ≡ mesh → Prepares words files before now (Ok job)
-all_taken words files c program table mesh job before t u now is first second third name value same =
-    let Lost : List ℕ → Type 0 = IsLost files before now in
-    let text = job_text_is program mesh job name value same in
-    let outcome : Outcome = record { ended = Done; text = job_text job } in
-    let finishes : Finishes program mesh outcome = ap done_with text in
-    named Lost words files c outcome is
-    (taken_goes_on Lost files Program c.program ProgramTells (TakesPoints Lost files c) before t program outcome first
-    (taken_goes_on Lost files Node c.node NodeTells (TakesCells Lost files c program) t u table outcome second
-    (taken_goes_on Lost files Ele c.ele (EleTells table) (Finishes program) u now mesh outcome third finishes)))
+    → StepGives files Ele c.ele (EleTells table) u now (Ok mesh) → MakesJob program mesh made → Prepares words files before now made
+all_taken words files c program table mesh made before t u now is first second third makes = go made makes
+  where
+    comes : (outcome : Outcome) → Finishes program mesh outcome → ComesTo (IsLost files before now) words files outcome
+    comes outcome finishes =
+        let Lost : List ℕ → Type 0 = IsLost files before now in
+        named Lost words files c outcome is
+        (taken_goes_on Lost files Program c.program ProgramTells (TakesPoints Lost files c) before t program outcome first
+        (taken_goes_on Lost files Node c.node NodeTells (TakesCells Lost files c program) t u table outcome second
+        (taken_goes_on Lost files Ele c.ele (EleTells table) (Finishes program) u now mesh outcome third finishes)))
+
+    go : (made : Result Job Ended) → MakesJob program mesh made → Prepares words files before now made
+    go (Ok job) makes = comes (record { ended = Done; text = job_text job }) (finished program mesh job makes)
+    go (Err ended) makes = unfinished (ComesTo (IsLost files before now) words files) program mesh ended comes makes
+
+-- what the making of a job leaves of the other clauses
+pub made_cause : (shelf shelf' : ℕ) (tree : Main) (mesh : MeshLists) (made : Result Job Ended) → MakesJob tree mesh made → shelf' ≡ shelf
+    → HasStepCause shelf shelf' made
+made_cause shelf shelf' tree mesh (Ok job) makes same = same
+made_cause shelf shelf' tree mesh (Err ended) (inl memory) same = subst (λ (e : Ended). HasStepCause {A = Job} shelf shelf' (Err e)) (sym memory) same
+made_cause shelf shelf' tree mesh (Err ended) (inr later) same = subst (λ (e : Ended). HasStepCause {A = Job} shelf shelf' (Err e)) (sym later.0) same
+
+pub made_no_usage : (tree : Main) (mesh : MeshLists) (made : Result Job Ended) → MakesJob tree mesh made → made ≡ Err Usage → ⊥
+made_no_usage tree mesh (Ok job) makes is = absurd cc
+made_no_usage tree mesh (Err ended) (inl memory) is = absurd cc
+made_no_usage tree mesh (Err ended) (inr later) is = let l = later.0 in absurd cc
+
+pub made_job : (tree : Main) (mesh : MeshLists) (made : Result Job Ended) → MakesJob tree mesh made
+    → IfOk made (λ job. (simple : Simple) × (m : MeshLists) × (job_text job ≡ done_text simple m))
+made_job tree mesh (Ok job) makes = (makes.0, mesh, makes.2)
+made_job tree mesh (Err ended) makes = tt
 
 -- a failed file is a lost one
 pub lost_at : (files : Files) (name : List ℕ) (before now : Tally) → FailsAt files name before now → IsLost files before now name
@@ -146,16 +177,23 @@ lost_at files name before now (inr other) = inr (other.1.others, other.1.last)
 pub no_usage : {A B : Type 0} (ended : Ended) (result : Result A Ended) → result ≡ Err ended → (◌≡◌ {A = Result B Ended} (Err ended) (Err Usage) → ⊥) → result ≡ Err Usage → ⊥
 no_usage ended result is other usage = let same : ended ≡ Usage = cc in other (ap Err same)
 
--- two numbers below 10^9 and their sum, as words of 64 bits
-word_of : (z : ℤ) → pos 0 ≤ℤ z → z <ℤ pos 2000000000 → to_z w64 (of_z w64 z) ≡ z
+-- two numbers of at most 10^9 and their sum, as words of 64 bits
+word_of : (z : ℤ) → pos 0 ≤ℤ z → z ≤ℤ pos 2000000000 → to_z w64 (of_z w64 z) ≡ z
 word_of z low high = to_z-of_z w64 z (omega (arith, ints))
 
-pub value_is : (first add : ℤ) → (pos 0 ≤ℤ first) × (first <ℤ pos 1000000000) × (pos 0 ≤ℤ add) × (add <ℤ pos 1000000000)
-    → to_z w64 (of_z w64 (to_z w64 (of_z w64 first) +ℤ to_z w64 (of_z w64 add))) ≡ first +ℤ add
-value_is first add b =
+pub value_is : (first added : ℤ) → IsSmall first → IsSmall added
+    → to_z w64 (of_z w64 (to_z w64 (of_z w64 first) +ℤ to_z w64 (of_z w64 added))) ≡ first +ℤ added
+value_is first added b c =
     let one = word_of first b.0 (omega (arith, ints)) in
-    let two = word_of add b.2 (omega (arith, ints)) in
-    rw (one, two) (word_of (first +ℤ add) (omega (arith, ints)) (omega (arith, ints)))
+    let two = word_of added c.0 (omega (arith, ints)) in
+    rw (one, two) (word_of (first +ℤ added) (omega (arith, ints)) (omega (arith, ints)))
+
+pub value_fits : (first added : ℤ) → IsSmall first → IsSmall added
+    → FitsSigned w64 (to_z w64 (of_z w64 first) +ℤ to_z w64 (of_z w64 added))
+value_fits first added b c =
+    let one = word_of first b.0 (omega (arith, ints)) in
+    let two = word_of added c.0 (omega (arith, ints)) in
+    rw (one, two) (omega (arith, ints))
 
 -- From what is known before anything is written to the answer
 
@@ -178,7 +216,9 @@ refused words files before now shelf shelf' old new Usage (inl memory) can taken
 refused words files before now shelf shelf' old new Usage (inr comes) can taken = (refusal_text Usage, comes, taken)
 refused words files before now shelf shelf' old new Later (inl memory) can taken = cc
 refused words files before now shelf shelf' old new Later (inr comes) can taken = (refusal_text Later, comes, taken)
+refused words files before now shelf shelf' old new (OfProgram fault) (inl memory) can taken = cc
 refused words files before now shelf shelf' old new (Mesh fault) (inl memory) can taken = cc
+refused words files before now shelf shelf' old new (OfProgram fault) (inr comes) can taken = (refusal_text (OfProgram fault), comes, taken)
 refused words files before now shelf shelf' old new (Mesh fault) (inr comes) can taken = (refusal_text (Mesh fault), comes, taken)
 refused words files before now shelf shelf' old new (Limit fault) (inl memory) can taken = cc
 refused words files before now shelf shelf' old new (Limit fault) (inr comes) can taken = (refusal_text (Limit fault), comes, taken)
@@ -192,6 +232,7 @@ shelf_cause shelf shelf' Done h = absurd h
 shelf_cause shelf shelf' WriteFault h = absurd h
 shelf_cause shelf shelf' Usage h = h
 shelf_cause shelf shelf' Later h = h
+shelf_cause shelf shelf' (OfProgram fault) h = h
 shelf_cause shelf shelf' (Mesh fault) h = h
 shelf_cause shelf shelf' (Limit fault) h = h
 shelf_cause shelf shelf' NoMemory h = h
@@ -215,17 +256,17 @@ told_refusal words files before now shelf shelf' old new known (Err _) ended com
 
 -- What was written, over whatever shelf
 
-text_of_job : (o : Option SeqCommand) (program : Plain) (mesh : MeshLists) (text : List ℕ) → (o ≡ None → ⊥) → text ≡ done_text program mesh
-    → MatchOption o (text ≡ refusal_text Usage) (λ _. ((e : Ended) × (text ≡ refusal_text e)) ⊎ ((p : Plain) × (m : MeshLists) × (text ≡ done_text p m)))
+text_of_job : (o : Option SeqCommand) (program : Simple) (mesh : MeshLists) (text : List ℕ) → (o ≡ None → ⊥) → text ≡ done_text program mesh
+    → MatchOption o (text ≡ refusal_text Usage) (λ _. ((e : Ended) × (text ≡ refusal_text e)) ⊎ ((p : Simple) × (m : MeshLists) × (text ≡ done_text p m)))
 text_of_job None program mesh text some is = absurd (some refl)
 text_of_job (Some c) program mesh text some is = inr (program, mesh, is)
 
 text_of_refusal : (o : Option SeqCommand) (ended : Ended) → (o ≡ None → ended ≡ Usage)
-    → MatchOption o (refusal_text ended ≡ refusal_text Usage) (λ _. ((e : Ended) × (refusal_text ended ≡ refusal_text e)) ⊎ ((p : Plain) × (m : MeshLists) × (refusal_text ended ≡ done_text p m)))
+    → MatchOption o (refusal_text ended ≡ refusal_text Usage) (λ _. ((e : Ended) × (refusal_text ended ≡ refusal_text e)) ⊎ ((p : Simple) × (m : MeshLists) × (refusal_text ended ≡ done_text p m)))
 text_of_refusal None ended usage = ap refusal_text (usage refl)
 text_of_refusal (Some c) ended usage = inl (ended, refl)
 
-pub wrote_job : (words : List (List ℕ)) (old new : Option (List ℕ)) (text : List ℕ) (program : Plain) (mesh : MeshLists) (written : Result Unit Unwritten) (ended : Ended)
+pub wrote_job : (words : List (List ℕ)) (old new : Option (List ℕ)) (text : List ℕ) (program : Simple) (mesh : MeshLists) (written : Result Unit Unwritten) (ended : Ended)
     → (command_of words ≡ None → ⊥) → text ≡ done_text program mesh → Writes text old new written → MatchResult written (λ _. ended ≡ Done) (λ _. ended ≡ WriteFault)
     → Wrote words old new ended
 wrote_job words old new text program mesh (Ok _) ended some is taken ends = subst (Wrote words old new) (sym ends) (program, mesh, taken ∙ ap (append_known old) is)
@@ -235,6 +276,7 @@ wrote_job words old new text program mesh (Err _) ended some is front ends =
 wrote_line : (words : List (List ℕ)) (shelf shelf' : ℕ) (old new : Option (List ℕ)) (known : Ended) → HasStepCause {A = Job} shelf shelf' (Err known) → new ≡ append_known old (refusal_text known) → Wrote words old new known
 wrote_line words shelf shelf' old new (ReadFault x) can taken = taken
 wrote_line words shelf shelf' old new Later can taken = taken
+wrote_line words shelf shelf' old new (OfProgram fault) can taken = taken
 wrote_line words shelf shelf' old new (Mesh fault) can taken = taken
 wrote_line words shelf shelf' old new (Limit fault) can taken = taken
 wrote_line words shelf shelf' old new Usage can taken = taken
@@ -252,6 +294,7 @@ wrote_refusal words shelf shelf' old new known (Err _) ended usage can front end
 written_cause : (shelf shelf' sink sink' : ℕ) (refusal : Ended) → HasStepCause {A = Job} shelf shelf' (Err refusal) → sink' ≡ sink → HasCauses shelf shelf' sink sink' refusal
 written_cause shelf shelf' sink sink' (ReadFault x) first second = (first, second)
 written_cause shelf shelf' sink sink' Later first second = (first, second)
+written_cause shelf shelf' sink sink' (OfProgram fault) first second = (first, second)
 written_cause shelf shelf' sink sink' (Mesh fault) first second = (first, second)
 written_cause shelf shelf' sink sink' (Limit fault) first second = (first, second)
 written_cause shelf shelf' sink sink' Usage first second = (first, second)
@@ -262,6 +305,7 @@ written_cause shelf shelf' sink sink' WriteFault first second = absurd first
 not_fallen : (shelf shelf' : ℕ) (refusal : Ended) → HasStepCause {A = Job} shelf shelf' (Err refusal) → shelf ≤ shelf'
 not_fallen shelf shelf' (ReadFault x) first = first.0
 not_fallen shelf shelf' Later first = omega (arith, first)
+not_fallen shelf shelf' (OfProgram fault) first = omega (arith, first)
 not_fallen shelf shelf' (Mesh fault) first = omega (arith, first)
 not_fallen shelf shelf' (Limit fault) first = omega (arith, first)
 not_fallen shelf shelf' Usage first = omega (arith, first)

@@ -1,24 +1,29 @@
 -- Endings, their status and their texts. This project's own.
-use Rattle.std.specs.Prelude.{ℕ, ◌+◌, ◌+ℤ◌, ℤ, nat_abs, List, [], ◌∷◌, ◌++◌, length, codes}
+use Rattle.std.specs.Prelude.{ℕ, ◌+◌, ◌+ℤ◌, ℤ, nat_abs, Option, Some, None, List, [], ◌∷◌, ◌++◌, length, codes}
 use Rattle.std.specs.List.{flat_map, range_with_len}
 use Rattle.std.specs.Fmt.{decimal, signed_decimal}
 use Rattle.liszt_base.specs.declared.answers.Input.{Input}
 use Rattle.liszt_base.specs.declared.answers.Input.TheVariants.{Program, Node, Ele}
 use Rattle.liszt_base.specs.declared.answers.LimitWhat.{LimitWhat}
-use Rattle.liszt_base.specs.declared.answers.LimitWhat.TheVariants.{File, Points, Cells}
+use Rattle.liszt_base.specs.declared.answers.LimitWhat.TheVariants.{File, Points, Cells, Tokens}
 use Rattle.liszt_base.specs.declared.answers.MeshFault.{MeshFault}
 use Rattle.liszt_base.specs.declared.answers.MeshFile.{MeshFile}
 use Rattle.liszt_base.specs.declared.answers.MeshFile.TheVariants.{Node as InNode, Ele as InEle}
 use Rattle.liszt_base.specs.declared.answers.MeshWhat.{MeshWhat}
 use Rattle.liszt_base.specs.declared.answers.MeshWhat.TheVariants.{Header, BadNumber, CoordRange, Dimension, SecondOrder, NumberOrder, Missing, Extra, CornerRange, CornerTwice, CellTwice, FaceShared, TooMany}
+use Rattle.liszt_base.specs.declared.answers.Place.{Place}
+use Rattle.liszt_base.specs.declared.answers.ProgramFault.{ProgramFault}
+use Rattle.liszt_base.specs.declared.answers.ProgramWhat.{ProgramWhat}
+use Rattle.liszt_base.specs.declared.answers.ProgramWhat.TheVariants.{BadByte, LongNumber, LongName, Big, Syntax, Deep, NameUnknown, NameTwice, TypeMismatch, PhaseConflict, ScalarWrite, BuiltinWrite}
 use Rattle.liszt_base.specs.MeshLists.{MeshLists}
-use Rattle.liszt_parser.specs.declared.plain.Plain.{Plain}
 use Rattle.liszt_run.specs.declared.ended.Ended.{Ended}
-use Rattle.liszt_run.specs.declared.ended.Ended.TheVariants.{Done, Usage, Later, Mesh, Limit, ReadFault, WriteFault, NoMemory}
+use Rattle.liszt_run.specs.declared.ended.Ended.TheVariants.{Done, Usage, Later, Program as OfProgram, Mesh, Limit, ReadFault, WriteFault, NoMemory}
+use Rattle.liszt_run.specs.Simple.{Simple}
 
 abbrev pub status : Ended → ℕ
 status Done = 0
 status Usage = 1
+status (OfProgram fault) = 2
 status (Mesh fault) = 3
 status (Limit fault) = 6
 status (ReadFault x) = 8
@@ -43,6 +48,35 @@ mesh_ending fault = ending fault.what where
   ending : MeshWhat → Ended
   ending TooMany = too_many fault.file fault.number
   ending what = Mesh fault
+
+-- The ending of a program with a fault: too many tokens are a limit of their own.
+abbrev pub program_ending : ProgramFault → Ended
+program_ending fault = ending fault.what where
+  ending : ProgramWhat → Ended
+  ending Big = Limit (record { what = Tokens; allowed = 131072; found = 131073 })
+  ending what = OfProgram fault
+
+abbrev pub program_word : ProgramWhat → List ℕ
+program_word BadByte = codes "BadByte"
+program_word LongNumber = codes "LongNumber"
+program_word LongName = codes "LongName"
+program_word Big = codes "Big"
+program_word Syntax = codes "Syntax"
+program_word Deep = codes "Deep"
+program_word NameUnknown = codes "NameUnknown"
+program_word NameTwice = codes "NameTwice"
+program_word TypeMismatch = codes "TypeMismatch"
+program_word PhaseConflict = codes "PhaseConflict"
+program_word ScalarWrite = codes "ScalarWrite"
+program_word BuiltinWrite = codes "BuiltinWrite"
+
+-- `LINE:COL`, and that of the first access where there is one
+abbrev pub place_text : Place → List ℕ
+place_text place = decimal place.line ++ (codes ":" ++ decimal place.col)
+
+abbrev pub first_text : Option Place → List ℕ
+first_text None = []
+first_text (Some place) = codes " first " ++ place_text place
 
 abbrev pub input_word : Input → List ℕ
 input_word Program = codes "program"
@@ -72,6 +106,7 @@ abbrev pub limit_word : LimitWhat → List ℕ
 limit_word (File x) = codes "File " ++ input_word x
 limit_word Points = codes "Points"
 limit_word Cells = codes "Cells"
+limit_word Tokens = codes "Tokens"
 
 -- the line of a limit, and that of a refusal
 abbrev pub limit_line : LimitWhat → ℕ → List ℕ
@@ -81,6 +116,8 @@ abbrev pub refusal_text : Ended → List ℕ
 refusal_text Usage =
     codes "usage: liszt_run MODE PROGRAM NODE ELE [--workers N] [--ranks N] [--parts NAME] [--turns L] or self N\n"
 refusal_text Later = codes "later program\n"
+refusal_text (OfProgram fault) =
+    codes "program " ++ (program_word fault.what ++ (codes " " ++ (place_text fault.place ++ (first_text fault.first ++ codes "\n"))))
 refusal_text (Mesh fault) =
     codes "mesh " ++ (mesh_file_word fault.file ++ (codes " " ++ (mesh_word fault.what ++ (codes " line " ++ (decimal fault.line ++ codes "\n")))))
 refusal_text (Limit fault) = limit_line fault.what fault.allowed
@@ -97,9 +134,9 @@ value_line name id value = name ++ (32 ∷ (decimal id ++ (32 ∷ (signed_decima
 abbrev pub field_text : List ℕ → (ℕ → ℤ) → ℕ → List ℕ
 field_text name value count = flat_map (λ id. value_line name id (value id)) (range_with_len 0 count)
 
--- The meaning of a plain program on a mesh: the number of each cell is the first one and the one added to it.
-abbrev pub cell_value : Plain → ℕ → ℤ
-cell_value program id = program.first +ℤ program.add
+-- The meaning of a simple program on a mesh: the number of each cell is the first one and the one added to it.
+abbrev pub cell_value : Simple → ℕ → ℤ
+cell_value simple id = simple.first +ℤ simple.added
 
-abbrev pub done_text : Plain → MeshLists → List ℕ
-done_text program mesh = field_text (program.name ∷ []) (cell_value program) (length mesh.cells)
+abbrev pub done_text : Simple → MeshLists → List ℕ
+done_text simple mesh = field_text simple.name (cell_value simple) (length mesh.cells)

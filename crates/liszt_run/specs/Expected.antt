@@ -6,15 +6,20 @@ use Rattle.liszt_base.specs.declared.answers.MeshFault.{MeshFault}
 use Rattle.liszt_base.specs.declared.mesh.PointTable.{PointTable}
 use Rattle.liszt_base.specs.MeshLists.{MeshLists}
 use Rattle.liszt_io.specs.Shelves.{Files, file}
-use Rattle.liszt_parser.specs.declared.plain.Plain.{Plain}
-use Rattle.liszt_parser.specs.PlainProgram.{IsPlainProgram}
+use Rattle.liszt_base.specs.declared.answers.ProgramFault.{ProgramFault}
+use Rattle.liszt_lexer.specs.Lexer.{tokens_of, end_of}
+use Rattle.liszt_lexer.specs.declared.token.Token.{Token}
+use Rattle.liszt_parser.specs.Grammar.{lexemes, Derives}
+use Rattle.liszt_parser.specs.ParseFault.{IsShallow, IsParseFault}
+use Rattle.liszt_tree.specs.Tree.{Main}
 use Rattle.text_scan.specs.Rows.{text_rows}
 use Rattle.tet_reader.specs.Answers.{SpellTable, SpellMesh}
 use Rattle.tet_reader.specs.Faults.{node_fault, cells_fault}
 use Rattle.liszt_run.specs.declared.ended.Ended.{Ended}
 use Rattle.liszt_run.specs.declared.ended.Ended.TheVariants.{Done, Usage, Later, ReadFault}
 use Rattle.liszt_run.specs.Commands.{command_of, SeqCommand}
-use Rattle.liszt_run.specs.Endings.{refusal_text, done_text, file_limit, too_long, mesh_ending}
+use Rattle.liszt_run.specs.Endings.{refusal_text, done_text, file_limit, too_long, program_ending, mesh_ending}
+use Rattle.liszt_run.specs.Simple.{Simple, IsSimple}
 
 -- an ending and its text
 pub record Outcome : Type 0 where
@@ -25,10 +30,16 @@ abbrev pub refusal : Ended → Outcome
 refusal ended = record { ended = ended; text = refusal_text ended }
 
 -- WHAT THE BYTES OF A FILE COME TO: a value that they spell, or the ending that their fault leads to.
--- A program is in the plain form, or else comes later.
-abbrev pub ProgramTells : List ℕ → Result Plain Ended → Type 0
-ProgramTells bytes (Ok program) = IsPlainProgram bytes program
-ProgramTells bytes (Err ended) = (ended ≡ Later) × ((program : Plain) → IsPlainProgram bytes program → ⊥)
+-- A program's tree, nowhere deeper than 64, or the first fault of its tokens, or of what they are.
+abbrev pub IsProgramFault : List ℕ → ProgramFault → Type 0
+IsProgramFault bytes fault =
+    (tokens_of bytes ≡ Err fault)
+    ⊎ ((tokens : List Token) × (tokens_of bytes ≡ Ok tokens) × IsParseFault (lexemes bytes tokens) (end_of bytes) (Some fault))
+
+abbrev pub ProgramTells : List ℕ → Result Main Ended → Type 0
+ProgramTells bytes (Ok tree) =
+    (tokens : List Token) × (tokens_of bytes ≡ Ok tokens) × Derives (lexemes bytes tokens) tree × IsShallow (lexemes bytes tokens) (length (lexemes bytes tokens))
+ProgramTells bytes (Err ended) = (fault : ProgramFault) × IsProgramFault bytes fault × (ended ≡ program_ending fault)
 
 -- the points of a node file, or its first fault
 abbrev pub NodeTells : List ℕ → Result PointTable Ended → Type 0
@@ -55,15 +66,18 @@ TakesIn {A} IsMissing files input name Tells GoesOn outcome =
     (IsMissing name × (outcome ≡ refusal (ReadFault input)))
     ⊎ ((bytes : List ℕ) × (told : Result A Ended) × (file files name ≡ Some bytes) × Within input Tells bytes told × Follows GoesOn told outcome)
 
--- `seq`: the program, the points and the cells are taken in, in this order, and then the program is run.
-abbrev pub Finishes : Plain → MeshLists → Outcome → Type 0
-Finishes program mesh outcome = outcome ≡ record { ended = Done; text = done_text program mesh }
+-- `seq`: the program, the points and the cells are taken in, in this order. Then the program is run if it is a simple one; each
+-- other comes later.
+abbrev pub Finishes : Main → MeshLists → Outcome → Type 0
+Finishes tree mesh outcome =
+    ((simple : Simple) × IsSimple tree simple × (outcome ≡ record { ended = Done; text = done_text simple mesh }))
+    ⊎ (((simple : Simple) → IsSimple tree simple → ⊥) × (outcome ≡ refusal Later))
 
-abbrev pub TakesCells : (List ℕ → Type 0) → Files → SeqCommand → Plain → PointTable → Outcome → Type 0
-TakesCells IsMissing files c program table = TakesIn IsMissing files Ele c.ele (EleTells table) (Finishes program)
+abbrev pub TakesCells : (List ℕ → Type 0) → Files → SeqCommand → Main → PointTable → Outcome → Type 0
+TakesCells IsMissing files c tree table = TakesIn IsMissing files Ele c.ele (EleTells table) (Finishes tree)
 
-abbrev pub TakesPoints : (List ℕ → Type 0) → Files → SeqCommand → Plain → Outcome → Type 0
-TakesPoints IsMissing files c program = TakesIn IsMissing files Node c.node NodeTells (TakesCells IsMissing files c program)
+abbrev pub TakesPoints : (List ℕ → Type 0) → Files → SeqCommand → Main → Outcome → Type 0
+TakesPoints IsMissing files c tree = TakesIn IsMissing files Node c.node NodeTells (TakesCells IsMissing files c tree)
 
 abbrev pub Seq : (List ℕ → Type 0) → Files → SeqCommand → Outcome → Type 0
 Seq IsMissing files c = TakesIn IsMissing files Program c.program ProgramTells (TakesPoints IsMissing files c)

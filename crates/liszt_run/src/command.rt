@@ -1,40 +1,144 @@
-ghost use Rattle.std.specs.Prelude.{◌≡◌};
-ghost use Rattle.std.specs.Option.{option_map};
-ghost use Rattle.liszt_run.specs.Commands.{command_of, is_name};
+ghost use Rattle.std.specs.Prelude.{◌≡◌, ◌∷◌, ◌++◌, [], ℕ, List, None};
+ghost use Rattle.std.specs.Option.{option_map, option_and_then};
+ghost use Rattle.liszt_run.specs.Commands.{command_of, turns_in};
+ghost use Rattle.liszt_run.specs.CommandReading.{command_after, given_so_far, plain_so_far, names};
 
+use crate::options::{OptionName, given_by, is_name, number_in, option_of};
 use liszt_base::WordList;
 
-/// `seq PROGRAM NODE ELE`: the names of the three files.
+/// The turns of a command that doesn't say them, and the most that it may say.
+const TURNS: u64 = 1_000_000;
+
+const MOST_TURNS: u64 = 1_000_000_000;
+
+/// `seq PROGRAM NODE ELE`: the names of the three files, and the most turns of a loop.
 #[derive(Clone, Copy, Debug)]
 pub struct Command<'a> {
     pub program: &'a str,
     pub node: &'a str,
     pub ele: &'a str,
+    pub turns: u64,
 }
 
-/// The command that the words name: `seq` and three words, none empty or beginning with `-`.
+/// The words taken so far: the option that waits for its value, the value of `--turns`, and the plain words, four at most.
+#[derive(Clone, Copy)]
+struct Taken<'a> {
+    waits: Option<OptionName>,
+    turns: Option<&'a [u8]>,
+    plain: [&'a str; 4],
+    count: usize,
+}
+
+/// The command that the words name, if they name one.
 pub fn command_of(words: &WordList) -> Option<Command<'_>>
-    ensures { option_map (λ c. record { program = c.program.now; node = c.node.now; ele = c.ele.now }) result ≡ command_of words.now }
+    ensures { option_map (λ c. record { program = c.program.now; node = c.node.now; ele = c.ele.now; turns = c.turns }) result ≡ command_of words.now }
 {
-    if words.len() != 4 {
-        return None;
+    let mut taken = Taken {
+        waits: None,
+        turns: None,
+        plain: [""; 4],
+        count: 0,
+    };
+    for word in words.as_slice() {
+        taken = taken.with(word.as_str())?;
     }
-    let program = words.word(1);
-    let node = words.word(2);
-    let ele = words.word(3);
-    if words.word(0) == "seq" && is_name(program) && is_name(node) && is_name(ele) {
-        Some(Command { program, node, ele })
-    } else {
-        None
-    }
+    taken.command()
 }
 
-/// Whether the word can name a file.
-fn is_name(word: &str) -> bool
-    ensures { result ≡ is_name word.now }
-{
-    match word.as_bytes() {
-        [] => false,
-        [first, ..] => *first != b'-',
+impl<'a> Taken<'a> {
+    /// One word more, or `None` where no command has such words.
+    fn with(self, word: &'a str) -> Option<Taken<'a>>
+        ensures { (rest : List (List ℕ)) → names self.entry (word.now ∷ rest) ≡ option_and_then (λ t. names t rest) result }
+    {
+        let bytes = word.as_bytes();
+        match self.waits {
+            Some(name) if is_name(bytes) => self.with_option(name, bytes),
+            Some(_) => None,
+            None => self.with_next(word),
+        }
+    }
+
+    /// A word that is no option's value.
+    fn with_next(self, word: &'a str) -> Option<Taken<'a>>
+        ensures { (rest : List (List ℕ)) → command_after None (given_so_far self.entry) (plain_so_far self.entry) (word.now ∷ rest)
+            ≡ option_and_then (λ t. names t rest) result }
+    {
+        let bytes = word.as_bytes();
+        if let Some(name) = option_of(bytes) {
+            Some(Taken {
+                waits: Some(name),
+                ..self
+            })
+        } else if let Some((name, value)) = given_by(bytes) {
+            self.with_option(name, value)
+        } else if is_name(bytes) {
+            self.with_plain(word)
+        } else {
+            None
+        }
+    }
+
+    /// An option and its value: `--turns`, once, is all that a command has.
+    fn with_option(self, name: OptionName, value: &'a [u8]) -> Option<Taken<'a>>
+        ensures { (rest : List (List ℕ)) → command_after None (given_so_far self.entry ++ (name, value.now) ∷ []) (plain_so_far self.entry) rest
+            ≡ option_and_then (λ t. names t rest) result }
+    {
+        match (name, self.turns) {
+            (OptionName::Turns, None) => Some(Taken {
+                waits: None,
+                turns: Some(value),
+                ..self
+            }),
+            _ => None,
+        }
+    }
+
+    /// A plain word: four are all that a command has.
+    fn with_plain(self, word: &'a str) -> Option<Taken<'a>>
+        ensures { (rest : List (List ℕ)) → command_after None (given_so_far self.entry) (plain_so_far self.entry ++ word.now ∷ []) rest
+            ≡ option_and_then (λ t. names t rest) result }
+    {
+        if self.count >= self.plain.len() {
+            return None;
+        }
+        let mut plain = self.plain;
+        plain[self.count] = word;
+        Some(Taken {
+            waits: None,
+            plain,
+            count: self.count + 1,
+            ..self
+        })
+    }
+
+    /// The command that the words name if no more follow.
+    fn command(self) -> Option<Command<'a>>
+        ensures { option_map (λ c. record { program = c.program.now; node = c.node.now; ele = c.ele.now; turns = c.turns }) result ≡ names self.entry [] }
+    {
+        if self.waits.is_some() || self.count < self.plain.len() {
+            return None;
+        }
+        let turns = self.turns()?;
+        let [mode, program, node, ele] = self.plain;
+        if mode == "seq" {
+            Some(Command {
+                program,
+                node,
+                ele,
+                turns,
+            })
+        } else {
+            None
+        }
+    }
+
+    /// The turns that the options say.
+    fn turns(self) -> Option<u64>
+        ensures { result ≡ turns_in (given_so_far self.entry) }
+    {
+        match self.turns {
+            Some(value) => number_in(1, MOST_TURNS, value),
+            None => Some(TURNS),
+        }
     }
 }

@@ -1,8 +1,11 @@
 ghost use Rattle.std.specs.Prelude.{◌≡◌};
-ghost use Rattle.liszt_run.specs.Endings.{status, mesh_ending, too_long as TooLong};
+ghost use Rattle.liszt_run.specs.Endings.{status, program_ending, mesh_ending, too_long as TooLong};
 ghost use Rattle.liszt_run.specs.Answers.{IsFileFault};
 
-use liszt_base::{Input, LimitFault, LimitWhat, MeshFault, MeshFile, MeshWhat};
+use liszt_base::{
+    Input, LimitFault, LimitWhat, MeshFault, MeshFile, MeshWhat, NoMemory, ProgramFault,
+    ProgramWhat,
+};
 
 /// How a call of the program ends.
 #[derive(Clone, Copy, Debug, PartialEq, Eq)]
@@ -11,8 +14,10 @@ pub enum Ended {
     Done,
     /// The words name no command.
     Usage,
-    /// The program isn't of the plain form, the only one that is read so far.
+    /// The program has a tree, but isn't a simple one, and only such are run so far.
     Later,
+    /// The program has this fault.
+    Program(ProgramFault),
     /// The mesh has this fault.
     Mesh(MeshFault),
     /// Something is past its limit.
@@ -25,6 +30,17 @@ pub enum Ended {
     NoMemory,
 }
 
+impl From<NoMemory> for Ended {
+    ghost use Rattle.std.specs.Prelude.{◌≡◌};
+    ghost use Rattle.liszt_run.specs.declared.ended.Ended.TheVariants.{NoMemory as OutOfMemory};
+
+    ghost from_gives = { λ _ ended. ended ≡ OutOfMemory };
+
+    fn from(_: NoMemory) -> Ended {
+        Ended::NoMemory
+    }
+}
+
 /// No file may have more bytes.
 pub const FILE_LIMIT: usize = 67_108_864;
 
@@ -35,6 +51,7 @@ pub fn status_of(ended: Ended) -> u8
     match ended {
         Ended::Done => 0,
         Ended::Usage => 1,
+        Ended::Program(_) => 2,
         Ended::Mesh(_) => 3,
         Ended::Limit(_) => 6,
         Ended::ReadFault(_) => 8,
@@ -52,6 +69,21 @@ pub fn too_long(input: Input) -> Ended
         what: LimitWhat::File(input),
         allowed: 67_108_864,
         found: 67_108_865,
+    })
+}
+
+/// The ending of a program with this fault: too many tokens are a limit of their own.
+pub fn program_ended(fault: ProgramFault) -> Ended
+    ensures is { result ≡ program_ending fault }
+    ensures file { IsFileFault result }
+{
+    if fault.what != ProgramWhat::Big {
+        return Ended::Program(fault);
+    }
+    Ended::Limit(LimitFault {
+        what: LimitWhat::Tokens,
+        allowed: 131_072,
+        found: 131_073,
     })
 }
 

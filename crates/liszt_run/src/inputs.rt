@@ -1,29 +1,27 @@
 ghost use Rattle.std.specs.Prelude.{◌≡◌, ℕ, ◌≤◌, ◌<◌, ◌^◌, ◌≤ℤ◌, ◌<ℤ◌, pos, Some, None, Ok, Err, IfOk, length};
-ghost use Rattle.liszt_base.specs.declared.answers.Input.TheVariants.{Program, Node, Ele};
+ghost use Rattle.liszt_base.specs.declared.answers.Input.TheVariants.{Program as TheProgram, Node, Ele};
 ghost use Rattle.liszt_io.specs.Shelves.{Files};
 ghost use Rattle.liszt_run.specs.declared.ended.Ended.TheVariants.{Usage};
 ghost use Rattle.liszt_run.specs.Commands.{command_of};
 ghost use Rattle.liszt_base.specs.MeshLists.{MeshLists};
 ghost use Rattle.liszt_run.specs.Endings.{done_text};
+ghost use Rattle.liszt_run.specs.Simple.{Simple};
+ghost use Rattle.liszt_tree.specs.Tree.{program_tree};
 ghost use Rattle.liszt_run.specs.Expected.{ProgramTells, NodeTells, EleTells};
-ghost use Rattle.liszt_run.specs.Answers.{HasStepCause, StepGives, TellsItself, TellsRows, Prepares, job_text};
+ghost use Rattle.liszt_run.specs.Answers.{HasStepCause, StepGives, TellsItself, TellsRows, MakesJob, Prepares, ReadsProgram, as_tree, job_text};
 
 use crate::command::command_of;
-use crate::ended::{Ended, FILE_LIMIT, mesh_ended, too_long};
-use liszt_base::{ByteList, Input, PointTable, RawMesh, Refused, WordList};
+use crate::ended::{Ended, FILE_LIMIT, mesh_ended, program_ended, too_long};
+use crate::job::Job;
+use crate::simple::simple_of;
+use liszt_base::{ByteList, Input, PointTable, ProgramFault, RawMesh, Refused, WordList};
 use liszt_io::{Shelf, WholeFault, read_whole};
-use liszt_parser::{Plain, read_plain};
+use liszt_lexer::tokens;
+use liszt_parser::parse;
+use liszt_tree::{Name, Program};
 use std::alloc::Global;
 use tet_reader::{read_cells, read_points};
 use text_scan::{Rows, rows_of};
-
-/// A run that is ready: the field's name, the number of each cell, and the mesh.
-#[derive(Drop)]
-pub struct Job {
-    pub name: u8,
-    pub value: i64,
-    pub mesh: RawMesh,
-}
 
 /// Takes in the three files that the words name, in their order. An `Err` is the ending that their first fault leads to.
 pub fn prepare<F: Shelf>(alloc: Global, words: &WordList, shelf: &mut F) -> Result<Job, Ended>
@@ -31,7 +29,7 @@ pub fn prepare<F: Shelf>(alloc: Global, words: &WordList, shelf: &mut F) -> Resu
     ensures cause { HasStepCause (F.faults shelf.old) (F.faults shelf.new) result }
     ensures usage { command_of words.now ≡ None → (result ≡ Err Usage) × (shelf.new ≡ shelf.old) }
     ensures only { result ≡ Err Usage → command_of words.now ≡ None }
-    ensures job { IfOk result (λ job. (program : Plain) × (mesh : MeshLists) × (job_text job ≡ done_text program mesh)) }
+    ensures job { IfOk result (λ job. (simple : Simple) × (mesh : MeshLists) × (job_text job ≡ done_text simple mesh)) }
     ensures told { (files : Files) → F.held shelf.old ≡ Some files
         → Prepares words.now files (F.tally shelf.old) (F.tally shelf.new) result }
 {
@@ -41,26 +39,47 @@ pub fn prepare<F: Shelf>(alloc: Global, words: &WordList, shelf: &mut F) -> Resu
     let program = take_program(alloc, shelf, command.program)?;
     let points = take_points(alloc, shelf, command.node)?;
     let mesh = take_cells(alloc, shelf, command.ele, points)?;
+    make_job(alloc, &program, mesh)
+}
+
+/// The job of a program on a mesh, if it is a simple program; each other comes later.
+fn make_job(alloc: Global, program: &Program, mesh: RawMesh) -> Result<Job, Ended>
+    ensures { MakesJob (program_tree program.now) mesh result }
+{
+    let Some(simple) = simple_of(program) else {
+        return Err(Ended::Later);
+    };
+    let mut name = Name::new(alloc);
+    name.extend(simple.name.as_slice())?;
     Ok(Job {
-        name: program.name,
-        value: program.first + program.add,
+        name,
+        value: simple.first + simple.added,
         mesh,
     })
 }
 
-fn take_program<F: Shelf>(alloc: Global, shelf: &mut F, name: &str) -> Result<Plain, Ended>
+fn take_program<F: Shelf>(alloc: Global, shelf: &mut F, name: &str) -> Result<Program, Ended>
     ensures held { F.held shelf.new ≡ F.held shelf.old }
     ensures cause { HasStepCause (F.faults shelf.old) (F.faults shelf.new) result }
     ensures other { result ≡ Err Usage → ⊥ }
     ensures told { (files : Files) → F.held shelf.old ≡ Some files
-        → StepGives files Program name.now ProgramTells (F.tally shelf.old) (F.tally shelf.new) result }
-    ensures bound { IfOk result (λ p. (pos 0 ≤ℤ p.first) × (p.first <ℤ pos 1000000000) × (pos 0 ≤ℤ p.add) × (p.add <ℤ pos 1000000000)) }
+        → StepGives files TheProgram name.now ProgramTells (F.tally shelf.old) (F.tally shelf.new) (as_tree result) }
 {
     let bytes = take_bytes(alloc, shelf, name, Input::Program)?;
-    match read_plain(bytes.as_slice()) {
-        Some(program) => Ok(program),
-        None => Err(Ended::Later),
+    match read_program(alloc, bytes.as_slice()) {
+        Ok(program) => Ok(program),
+        Err(Refused::Fault(fault)) => Err(program_ended(fault)),
+        Err(Refused::NoMemory) => Err(Ended::NoMemory),
     }
+}
+
+/// The program that a text is, or the first fault of its tokens or of what they are.
+fn read_program(alloc: Global, text: &[u8]) -> Result<Program, Refused<ProgramFault>>
+    requires { length text.now < 2 ^ 31 }
+    ensures { ReadsProgram text.now result }
+{
+    let tokens = tokens(alloc, text)?;
+    parse(alloc, text, &tokens)
 }
 
 fn take_points<F: Shelf>(alloc: Global, shelf: &mut F, name: &str) -> Result<PointTable, Ended>

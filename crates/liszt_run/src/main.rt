@@ -2,17 +2,25 @@
 #![tactic(auto)]
 
 mod command;
+mod command_cases;
 mod ended;
 #[cfg(test)]
 mod incidence;
 mod inputs;
+mod job;
 mod laws;
 #[cfg(test)]
 mod mesh_faults;
+mod options;
+#[cfg(test)]
+mod programs;
 mod report;
+mod simple;
 #[cfg(test)]
 mod tests;
 mod top;
+#[cfg(test)]
+mod word_lists;
 
 use crate::ended::{Ended, status_of};
 use crate::report::write_refusal;

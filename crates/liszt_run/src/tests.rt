@@ -53,7 +53,7 @@ fn held(alloc: Global, name: &[u8], bytes: &[u8]) -> Result<HeldFile, NoMemory>
 }
 
 /// The files p, n and e, of which call `fail` fails.
-fn shelf_of(
+pub(crate) fn shelf_of(
     alloc: Global,
     program: &str,
     node: &str,
@@ -73,7 +73,7 @@ fn shelf_of(
 }
 
 /// Runs `seq p n e` over this shelf, into a sink that takes `cut` bytes at most and fails its call `fail`.
-fn run_into<R: Threads + Wait + Sync + AllocGlobal, F: Shelf>(
+pub(crate) fn run_into<R: Threads + Wait + Sync + AllocGlobal, F: Shelf>(
     rt: &R,
     shelf: &mut F,
     cut: usize,
@@ -89,7 +89,7 @@ fn run_into<R: Threads + Wait + Sync + AllocGlobal, F: Shelf>(
 }
 
 /// One row of a table: three files, and the text and the status that belong to them.
-fn row<R: Threads + Wait + Abort + AllocGlobal + Sync>(
+pub(crate) fn row<R: Threads + Wait + Abort + AllocGlobal + Sync>(
     rt: &R,
     program: &str,
     node: &str,
@@ -102,13 +102,6 @@ fn row<R: Threads + Wait + Abort + AllocGlobal + Sync>(
     assert_eq!(rt; out.bytes(), text.as_bytes(), "{program} {node} {ele}");
     assert_eq!(rt; status_of(ended), status);
     Ok(())
-}
-
-fn program_row<R: Threads + Wait + Abort + AllocGlobal + Sync>(
-    rt: &R,
-    program: &str,
-) -> Result<(), AllocError> {
-    row(rt, program, NODE, ELE, "later program\n", 11)
 }
 
 /// One row of a table of meshes: two files, and the text and the status that the program of one loop gives on them.
@@ -125,108 +118,6 @@ pub(crate) fn mesh_row<R: Threads + Wait + Abort + AllocGlobal + Sync>(
 #[test]
 fn adds_a_number_to_each_cell(rt: HostRuntime) -> Result<(), Fail> {
     row(&rt, PROGRAM, NODE, ELE, TEXT, 0)?;
-    Ok(())
-}
-
-/// The edges of the program's form.
-#[test]
-fn plain_programs(rt: HostRuntime) -> Result<(), Fail> {
-    let rt = &rt;
-    row(
-        rt,
-        "field A : Cell = 5;\nfor (c <- cells(mesh)) { A(c) += 2 }",
-        NODE,
-        ELE,
-        TEXT,
-        0,
-    )?;
-    row(
-        rt,
-        "field Z : Cell = 000000005;\nfor (c <- cells(mesh)) { Z(c) += 0 }\n",
-        NODE,
-        ELE,
-        "Z 0 5\nZ 1 5\n",
-        0,
-    )?;
-    row(
-        rt,
-        "field A : Cell = 999999999;\nfor (c <- cells(mesh)) { A(c) += 999999999 }\n",
-        NODE,
-        ELE,
-        "A 0 1999999998\nA 1 1999999998\n",
-        0,
-    )?;
-    program_row(rt, "")?;
-    program_row(
-        rt,
-        "field Deg : Vertex = 0;\nfor (e <- edges(mesh)) { Deg(head(e)) += 1; Deg(tail(e)) += 1 }\n",
-    )?;
-    program_row(
-        rt,
-        "field a : Cell = 5;\nfor (c <- cells(mesh)) { a(c) += 2 }\n",
-    )?;
-    program_row(
-        rt,
-        "field A : Cell = 5;\nfor (c <- cells(mesh)) { B(c) += 2 }\n",
-    )?;
-    program_row(
-        rt,
-        "field A : Cell = 0000000005;\nfor (c <- cells(mesh)) { A(c) += 2 }\n",
-    )?;
-    program_row(
-        rt,
-        "field A : Cell = -5;\nfor (c <- cells(mesh)) { A(c) += 2 }\n",
-    )?;
-    program_row(
-        rt,
-        "field A : Cell = ;\nfor (c <- cells(mesh)) { A(c) += 2 }\n",
-    )?;
-    program_row(
-        rt,
-        "field  A : Cell = 5;\nfor (c <- cells(mesh)) { A(c) += 2 }\n",
-    )?;
-    program_row(
-        rt,
-        "field\tA : Cell = 5;\nfor (c <- cells(mesh)) { A(c) += 2 }\n",
-    )?;
-    program_row(
-        rt,
-        "field A : Cell = 5\nfor (c <- cells(mesh)) { A(c) += 2 }\n",
-    )?;
-    program_row(
-        rt,
-        "field A : Vertex = 5;\nfor (c <- cells(mesh)) { A(c) += 2 }\n",
-    )?;
-    program_row(
-        rt,
-        "field A : Cell = 5;\r\nfor (c <- cells(mesh)) { A(c) += 2 }\r\n",
-    )?;
-    program_row(
-        rt,
-        "field A : Cell = 5;\nfor (c <- cells(mesh)) { A(c) += 2 }\n\n",
-    )?;
-    program_row(
-        rt,
-        "field A : Cell = 5;\nfor (c <- cells(mesh)) { A(c) += 2 } // two\n",
-    )?;
-    program_row(
-        rt,
-        "field A : Cell = 5;\nfor (c <- cells(mesh)) { A(c) += 2; }\n",
-    )?;
-    Ok(())
-}
-
-/// A program that isn't plain comes before a fault of the mesh.
-#[test]
-fn later_before_the_mesh(rt: HostRuntime) -> Result<(), Fail> {
-    row(
-        &rt,
-        "no program\n",
-        "no mesh\n",
-        "no mesh\n",
-        "later program\n",
-        11,
-    )?;
     Ok(())
 }
 

@@ -2,9 +2,10 @@ use Rattle.std.proofs.Common.{Err, Result, ap, sym, subst, refl, ◌∙◌}
 use Rattle.std.specs.Option.{option_map}
 use Rattle.std.proofs.lemmas.Result.{err_from_is_err_and}
 use Rattle.liszt_run.specs.declared.ended.Ended.{Ended}
-use Rattle.liszt_run.specs.declared.inputs.Job.{Job}
+use Rattle.liszt_run.specs.declared.job.Job.{Job}
 use Rattle.liszt_run.specs.Answers.{Prepares}
-use Rattle.liszt_run.proofs.Steps.{value_is, job_text_is, all_taken, ele_refused, no_usage}
+use Rattle.liszt_run.proofs.Steps.{all_taken, made_cause, made_no_usage, made_job, ele_refused, no_usage}
+use Rattle.liszt_tree.specs.Tree.{program_tree}
 use Rattle.liszt_run.proofs.inputs.prepare.Goals as goal
 
 pub returns-in_err-program-clause-only : goal.returns-in_err-program-clause-only
@@ -25,7 +26,7 @@ returns-in_err-mesh-clause-only g c h =
 pub returns-in_err-mesh-clause-told : goal.returns-in_err-mesh-clause-told
 returns-in_err-mesh-clause-told g c files h =
     let p = err_from_is_err_and c.from_residual-in_err-mesh.result c.from_residual-in_err-mesh.ensures.1 in
-    let command = sym c.command_of.ensures ∙ ap (option_map (λ d. record { program = d.program.now; node = d.node.now; ele = d.ele.now })) c.in-Some.is in
+    let command = sym c.command_of.ensures ∙ ap (option_map (λ d. record { program = d.program.now; node = d.node.now; ele = d.ele.now; turns = d.turns })) c.in-Some.is in
     let first = c.in_ok-program.ensures.told files h in
     let h₁ = c.in_ok-program.ensures.held ∙ h in
     let second = c.in_ok-points.ensures.told files h₁ in
@@ -34,18 +35,24 @@ returns-in_err-mesh-clause-told g c files h =
     let before = g.F.Shelf.tally c.args.shelf.now in
     let now = g.F.Shelf.tally c.take_cells.new.shelf in
     subst (λ (r : Result Job Ended). Prepares c.args.words.now files before now r) (sym (p.1 ∙ ap Err p.2))
-    (ele_refused c.args.words.now files _ c.in_ok-program.program c.in_ok-points.points before (g.F.Shelf.tally c.take_program.new.shelf) (g.F.Shelf.tally c.take_points.new.shelf) now c.in_err-mesh.field-0.0 command first second third)
+    (ele_refused c.args.words.now files _ (program_tree c.in_ok-program.program) c.in_ok-points.points before (g.F.Shelf.tally c.take_program.new.shelf) (g.F.Shelf.tally c.take_points.new.shelf) now c.in_err-mesh.field-0.0 command first second third)
 
 pub returns-clause-told : goal.returns-clause-told
 returns-clause-told g c files h =
-    let command = sym c.command_of.ensures ∙ ap (option_map (λ d. record { program = d.program.now; node = d.node.now; ele = d.ele.now })) c.in-Some.is in
+    let command = sym c.command_of.ensures ∙ ap (option_map (λ d. record { program = d.program.now; node = d.node.now; ele = d.ele.now; turns = d.turns })) c.in-Some.is in
     let first = c.in_ok-program.ensures.told files h in
     let h₁ = c.in_ok-program.ensures.held ∙ h in
     let second = c.in_ok-points.ensures.told files h₁ in
     let h₂ = c.in_ok-points.ensures.held ∙ h₁ in
     let third = c.in_ok-mesh.ensures.told files h₂ in
-    all_taken c.args.words.now files _ c.in_ok-program.program c.in_ok-points.points c.in_ok-mesh.mesh _ _ _ _ _ command first second third refl (value_is c.in_ok-program.program.first c.in_ok-program.program.add c.in_ok-program.ensures.bound) refl
+    all_taken c.args.words.now files _ (program_tree c.in_ok-program.program) c.in_ok-points.points c.in_ok-mesh.mesh c.make_job.result _ _ _ _ command first second third c.make_job.ensures
+
+pub returns-clause-cause : goal.returns-clause-cause
+returns-clause-cause g c = made_cause _ _ (program_tree c.in_ok-program.program) c.in_ok-mesh.mesh c.make_job.result c.make_job.ensures
+    (c.in_ok-mesh.ensures.cause ∙ c.in_ok-points.ensures.cause ∙ c.in_ok-program.ensures.cause)
+
+pub returns-clause-only : goal.returns-clause-only
+returns-clause-only g c h = absurd (made_no_usage (program_tree c.in_ok-program.program) c.in_ok-mesh.mesh c.make_job.result c.make_job.ensures h)
 
 pub returns-clause-job : goal.returns-clause-job
-returns-clause-job g c =
-    (c.in_ok-program.program, c.in_ok-mesh.mesh, job_text_is c.in_ok-program.program c.in_ok-mesh.mesh _ refl (value_is c.in_ok-program.program.first c.in_ok-program.program.add c.in_ok-program.ensures.bound) refl)
+returns-clause-job g c = made_job (program_tree c.in_ok-program.program) c.in_ok-mesh.mesh c.make_job.result c.make_job.ensures

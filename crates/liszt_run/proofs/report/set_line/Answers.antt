@@ -4,7 +4,7 @@ use Rattle.liszt_run.proofs.report.set_line.Goals as goal
 
 pub number-requires : goal.number-requires
 number-requires c =
-    omega (arith, word_short c.args.id c.ranges.id.fits, simp length-append at (ap length c.text.ensures), ap length c.clear.ensures)
+    omega (arith, word_short c.args.id c.ranges.id.fits, simp length-append at (ap length c.text.ensures), ap length c.clear.ensures, c.requires.name, simp length-append at (ap length c.text-2.ensures))
 
 pub number-requires-2 : goal.number-requires-2
 number-requires-2 c =
@@ -12,6 +12,8 @@ number-requires-2 c =
       arith,
       value_short c.args.value c.ranges.value,
       simp length-append at (ap length c.text-2.ensures),
+      simp length-append at (ap length c.text-3.ensures),
+      c.requires.name,
       c.number.ensures.short,
       simp length-append at (ap length c.text.ensures),
       ap length c.clear.ensures,

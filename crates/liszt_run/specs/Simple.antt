@@ -1,0 +1,39 @@
+-- The programs that run so far, as trees: one field on cells, and one loop that adds a number to it at each cell.
+-- This project's own profile, after Liszt.
+use Rattle.std.specs.Prelude.{◌≡◌, ℕ, ◌≤◌, ◌≤ℤ◌, ℤ, List, [], ◌∷◌, false, length, pos, codes, Some}
+use Rattle.std.specs.List.{list_any}
+use Rattle.std.specs.Str.{bytes_eq}
+use Rattle.liszt_base.specs.declared.elements.Kind.TheVariants.{Cell}
+use Rattle.liszt_base.specs.declared.elements.Op.TheVariants.{Add}
+use Rattle.liszt_tree.specs.declared.tree.How.TheVariants.{Fold}
+use Rattle.liszt_tree.specs.Tree.{nowhere, Number, Name, Assign, no_statement, statement, MainField, MainFor, Main, no_item, item, Same}
+
+-- the field's name, its first number, and the number that is added
+pub record Simple : Type 0 where
+  pub name : List ℕ
+  pub first : ℤ
+  pub added : ℤ
+
+-- `field NAME : Cell = FIRST;` and `for (c <- cells(mesh)) { NAME(c) += ADDED; }`, without places
+abbrev pub simple_tree : Simple → Main
+simple_tree s =
+    item (MainField nowhere s.name nowhere Cell (Number nowhere s.first))
+    (item (MainFor nowhere (codes "c") nowhere Cell
+    (statement (Assign nowhere s.name (Some (Name nowhere (codes "c"))) (Fold Add) (Number nowhere s.added)) no_statement))
+    no_item)
+
+-- names that no field may have there: the loop's variable, and the built-in fields
+abbrev pub taken_names : List (List ℕ)
+taken_names = codes "c" ∷ codes "PosX" ∷ codes "PosY" ∷ codes "PosZ" ∷ codes "Mark" ∷ codes "Region" ∷ []
+
+-- a number of at most 10^9
+abbrev pub IsSmall : ℤ → Type 0
+IsSmall z = (pos 0 ≤ℤ z) × (z ≤ℤ pos 1000000000)
+
+-- The tree is that of a simple program, up to places. No name is longer than 64 bytes.
+pub record IsSimple (tree : Main) (s : Simple) : Type 0 where
+  pub shape : Same tree (simple_tree s)
+  pub free : list_any (bytes_eq s.name) taken_names ≡ false
+  pub short : length s.name ≤ 64
+  pub first : IsSmall s.first
+  pub added : IsSmall s.added

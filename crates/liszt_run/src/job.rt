@@ -1,0 +1,13 @@
+ghost use Rattle.std.specs.Prelude.{◌≤◌, length};
+
+use liszt_base::RawMesh;
+use liszt_tree::Name;
+
+/// A run that is ready: the field's name, the number of each cell, and the mesh.
+#[derive(Drop)]
+pub struct Job {
+    pub name: Name,
+    pub value: i64,
+    pub mesh: RawMesh,
+    ghost short: { length name ≤ 64 },
+}
