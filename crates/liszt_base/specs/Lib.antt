@@ -1,4 +1,5 @@
 pub mod Corners
 pub mod Cuts
+pub mod Kinds
 pub mod MeshLists
 pub mod Reductions

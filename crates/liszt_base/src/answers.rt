@@ -1,5 +1,6 @@
 ghost use Rattle.std.specs.Prelude.{◌≡◌};
 
+use crate::elements::Elem;
 use std::alloc::{AllocError, AllocFailed};
 
 /// Memory was refused.
@@ -127,4 +128,29 @@ pub struct ProgramFault {
     pub what: ProgramWhat,
     pub place: Place,
     pub first: Option<Place>,
+}
+
+/// Why a program stops while it runs, as `docs/LANGUAGE.md` says of each.
+#[derive(Clone, Copy, Debug, PartialEq, Eq)]
+pub enum TrapKind {
+    Overflow,
+    ZeroDivide,
+    NilElement,
+    Spent,
+    Prints,
+}
+
+/// Where a program stops: why, at which place of its text, and the element of the iteration, or `None` in the main program.
+#[derive(Clone, Copy, Debug, PartialEq, Eq)]
+pub struct Trap {
+    pub kind: TrapKind,
+    pub place: Place,
+    pub elem: Option<Elem>,
+}
+
+/// How a run ends.
+#[derive(Clone, Copy, Debug, PartialEq, Eq)]
+pub enum RunEnd {
+    Done,
+    Trap(Trap),
 }

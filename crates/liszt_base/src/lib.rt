@@ -18,7 +18,7 @@ mod word_list;
 pub use accesses::{Access, Mode, Spot};
 pub use answers::{
     Input, LimitFault, LimitWhat, MeshFault, MeshFile, MeshWhat, NoMemory, Place, ProgramFault,
-    ProgramWhat, Refused,
+    ProgramWhat, Refused, RunEnd, Trap, TrapKind,
 };
 pub use elements::{Elem, Kind, Op, SetName};
 pub use gate::{Gate, OpenGate};

@@ -3,7 +3,7 @@
 use crate::accesses::{Access, Mode, Spot};
 use crate::answers::{
     Input, LimitFault, LimitWhat, MeshFault, MeshFile, MeshWhat, NoMemory, Place, ProgramFault,
-    ProgramWhat, Refused,
+    ProgramWhat, Refused, RunEnd, Trap, TrapKind,
 };
 use crate::elements::{Elem, Kind, Op, SetName};
 use crate::gate::OpenGate;
@@ -26,6 +26,9 @@ fn types_are_shared() {
     needs_shared::<Place>();
     needs_shared::<ProgramWhat>();
     needs_shared::<ProgramFault>();
+    needs_shared::<TrapKind>();
+    needs_shared::<Trap>();
+    needs_shared::<RunEnd>();
     needs_shared::<Op>();
     needs_shared::<Mode>();
     needs_shared::<Spot>();

@@ -3,6 +3,7 @@
 use Rattle.std.specs.Prelude.{◌≡◌, ℕ, ◌<◌, ◌==◌, ◌&&◌, not, nat_lt, if◌then◌else◌, Bool, true, false, Option, Some, None, List, [], ◌∷◌, map, reverse, slice_get, slice_index, unwrap_or, is_some}
 use Rattle.std.specs.List.{find}
 use Rattle.std.specs.Option.{option_and_then, option_map}
+pub use Rattle.liszt_base.specs.Kinds.{is_kind, has_set}
 use Rattle.liszt_base.specs.MeshLists.{MeshLists}
 use Rattle.liszt_base.specs.declared.elements.Elem.{Elem}
 use Rattle.liszt_base.specs.declared.elements.Kind.{Kind}
@@ -56,13 +57,6 @@ abbrev pub flip : Option Elem → Option Elem
 flip x = option_map turned x
 
 -- elements are the same where their kind and id are, whatever their orientation, and nil is the same as nil alone
-abbrev pub is_kind : Kind → Kind → Bool
-is_kind Vertex Vertex = true
-is_kind Edge Edge = true
-is_kind Face Face = true
-is_kind Cell Cell = true
-is_kind _ _ = false
-
 abbrev pub same : Option Elem → Option Elem → Bool
 same None None = true
 same (Some x) (Some y) = is_kind x.kind y.kind && (x.id == y.id)
@@ -114,11 +108,3 @@ members mesh Edges x = map (unflipped Edge) (near mesh x.kind x.id Edge)
 members mesh Faces x = map (unflipped Face) (near mesh x.kind x.id Face)
 members mesh Cells x = map (unflipped Cell) (near mesh x.kind x.id Cell)
 members mesh EdgesCcw x = map (edge_along mesh) (steps (cycle_of mesh x))
-
--- which sets an element of a kind has
-abbrev pub has_set : Kind → SetName → Bool
-has_set Edge Edges = false
-has_set Face Faces = false
-has_set Face EdgesCcw = true
-has_set _ EdgesCcw = false
-has_set _ _ = true

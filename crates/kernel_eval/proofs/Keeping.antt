@@ -1,0 +1,274 @@
+-- What every meaning keeps because each of its single changes does: one induction over expressions, statements and bodies.
+use Rattle.std.proofs.Common.{◌≡◌, ℕ, zero, suc, Bool, true, false, List, [], ◌∷◌, refl}
+use Rattle.std.specs.Prelude.{Option, Some, None, ℤ, Result, Ok, Err, ◌&&◌, int_le, pos, int_div, int_rem, ◌+ℤ◌, ◌-ℤ◌, ◌*ℤ◌, neg_ℤ}
+use Rattle.liszt_base.specs.MeshLists.{MeshLists}
+use Rattle.liszt_base.specs.declared.accesses.Mode.TheVariants.{Read}
+use Rattle.liszt_base.specs.declared.accesses.Spot.{Spot}
+use Rattle.liszt_base.specs.declared.answers.Place.{Place}
+use Rattle.liszt_base.specs.declared.answers.TrapKind.TheVariants.{Overflow, ZeroDivide, Spent}
+use Rattle.liszt_base.specs.declared.elements.Elem.{Elem}
+use Rattle.liszt_tree.specs.declared.tree.Fun.{Fun}
+use Rattle.liszt_tree.specs.declared.tree.Fun.TheVariants.{Head, Tail, Inside, Outside, Flip, Valid, Id}
+use Rattle.liszt_tree.specs.declared.tree.How.{How}
+use Rattle.liszt_tree.specs.declared.tree.Rel.{Rel}
+use Rattle.liszt_tree.specs.declared.tree.Rel.TheVariants.{Same, Other, Below, AtMost, Above, AtLeast}
+use Rattle.liszt_tree.specs.declared.tree.Sign.{Sign}
+use Rattle.liszt_tree.specs.declared.tree.Sign.TheVariants.{Or, And, Plus, Minus, Times, Over, Rest}
+use Rattle.liszt_tree.specs.Tree.{Expression, Number, Name, Field, Call, Towards, Neg, Not, Chain, Compare, Links, no_links, link}
+use Rattle.liszt_tree.specs.Tree.{Statement, Var, Val, Assign, If, While, For, Body, no_statement, statement}
+use Rattle.topo_operators.specs.Operators.{towards, members}
+use Rattle.phase_types.specs.Names.{Names, Named, FieldName, ScalarName, LocalName, ElementName, named}
+use Rattle.phase_types.specs.Walk.{mode_by}
+use Rattle.kernel_eval.specs.Kept.{Keeps}
+use Rattle.kernel_eval.specs.Outcomes.{Stop, Outcome, gives, go_on, and_then, either, each, does_nothing, changes, Turns, taking_a_turn, loop_within, loop}
+use Rattle.kernel_eval.specs.States.{Moment, value_in, with_value, with_fields, with_scalar_value, scalar_value, with_local, with_local_value, with_element, with_act, with_state, out_of_block, local_named, element_named}
+use Rattle.kernel_eval.specs.Meaning.{Value, NumberValue, TruthValue, ElementValue, number_of, truth_of, element_of, fitting, divided, operated, is_decided, negated, denied, compared, id_at, call_of, scalar_read, global_read, name_read, read_spot, field_read, spot_of, held, is_in_range, meaning, meaning_behind, number_in, truth_in, element_in, operand, assigned, spot_assigned, field_assigned, folds_of, scalar_assigned, global_assigned, name_assigned, in_block, moment_turns, each_member, statement_meaning, body_meaning, traps}
+
+pub record IsKept (R : Moment → Moment → Type 0) : Type 0 where
+  pub same : (m : Moment) → R m m
+  pub later : (a b c : Moment) → R a b → R b c → R a c
+  pub local : (name : List ℕ) (n : ℤ) (m : Moment) → R m (with_local name n m)
+  pub local_set : (name : List ℕ) (n : ℤ) (m : Moment) → R m (with_local_value name n m)
+  pub element : (name : List ℕ) (x : Option Elem) (m : Moment) → R m (with_element name x m)
+  pub read : (spot : Spot) (n : ℤ) (m : Moment) → R m (with_act (record { spot = spot; mode = Read; value = n }) m)
+  pub spot_set : (spot : Spot) (how : How) (n old : ℤ) (m : Moment) → value_in m.state.fields spot ≡ Some old
+    → R m (with_act (record { spot = spot; mode = mode_by how; value = operand how n }) (with_state (with_fields (with_value spot (assigned how old n) m.state.fields) m.state) m))
+  pub scalar_set : (how : How) (n : ℤ) (scalar : ℕ) (old : ℤ) (m : Moment)
+    → R m (folds_of how scalar n (with_state (with_scalar_value scalar (assigned how old n) m.state) m))
+  pub block : (before m : Moment) → R before m → R before (out_of_block before m)
+  pub turn : (n : ℕ) (m : Moment) → m.state.turns ≡ suc n → R m (with_state (record m.state { turns = n }) m)
+
+module _ {R : Moment → Moment → Type 0} (k : IsKept R) where
+  -- doing one thing after the other
+  keeps_go_on : {A B : Type 0} {next : A → Moment → Outcome Moment B} → ((a : A) → Keeps R (next a)) → (before s : Moment) → R before s
+      → (answer : Result A Stop) → R before (go_on next s answer).after
+  keeps_go_on h before s r (Ok a) = k.later before s _ r ((h a).kept s)
+  keeps_go_on h before s r (Err stop) = r
+
+  pub keeps_then : {A B : Type 0} {first : Moment → Outcome Moment A} {next : A → Moment → Outcome Moment B} → Keeps R first
+      → ((a : A) → Keeps R (next a)) → Keeps R (and_then first next)
+  keeps_then {first = first} f h = record { kept = λ m. keeps_go_on h m (first m).after (f.kept m) (first m).answer }
+
+  keeps_either : {A : Type 0} {this other : Moment → Outcome Moment A} (b : Bool) → Keeps R this → Keeps R other → Keeps R (either b this other)
+  keeps_either true f g = f
+  keeps_either false f g = g
+
+  keeps_each : {X : Type 0} {doing : X → Moment → Outcome Moment (Unit {0})} → ((x : X) → Keeps R (doing x)) → (xs : List X) → Keeps R (each doing xs)
+  keeps_each h [] = record { kept = k.same }
+  keeps_each h (x ∷ xs) = keeps_then (h x) (λ done. keeps_each h xs)
+
+  does_nothing_keeps : Keeps R (does_nothing {S = Moment})
+  does_nothing_keeps = record { kept = k.same }
+
+  keeps_turn : {spent body : Moment → Outcome Moment (Unit {0})} → Keeps R spent → Keeps R body
+      → (left : ℕ) (m : Moment) → m.state.turns ≡ left → R m (taking_a_turn moment_turns spent body left m).after
+  keeps_turn f g zero m e = f.kept m
+  keeps_turn f g (suc n) m e = k.later m _ _ (k.turn n m e) (g.kept _)
+
+  turn_keeps : {spent body : Moment → Outcome Moment (Unit {0})} → Keeps R spent → Keeps R body
+      → Keeps R (λ m. taking_a_turn moment_turns spent body (moment_turns.left m) m)
+  turn_keeps f g = record { kept = λ m. keeps_turn f g m.state.turns m refl }
+
+  keeps_within : {spent body : Moment → Outcome Moment (Unit {0})} {test : Moment → Outcome Moment Bool}
+      → Keeps R spent → Keeps R test → Keeps R body → (bound : ℕ) → Keeps R (loop_within moment_turns spent test body bound)
+  keeps_within f h g zero = keeps_then h (λ goes_on. keeps_either goes_on f does_nothing_keeps)
+  keeps_within f h g (suc n) =
+      keeps_then h (λ goes_on. keeps_either goes_on (keeps_then (turn_keeps f g) (λ done. keeps_within f h g n)) does_nothing_keeps)
+
+  keeps_loop : {spent body : Moment → Outcome Moment (Unit {0})} {test : Moment → Outcome Moment Bool}
+      → Keeps R spent → Keeps R test → Keeps R body → Keeps R (loop moment_turns spent test body)
+  keeps_loop f h g = record { kept = λ m. (keeps_within f h g m.state.turns).kept m }
+
+  -- single steps of expressions
+  keeps_number_of : (v : Value) → Keeps R (number_of v)
+  keeps_number_of (NumberValue n) = record { kept = k.same }
+  keeps_number_of _ = record { kept = k.same }
+
+  keeps_truth_of : (v : Value) → Keeps R (truth_of v)
+  keeps_truth_of (TruthValue b) = record { kept = k.same }
+  keeps_truth_of _ = record { kept = k.same }
+
+  keeps_element_of : (v : Value) → Keeps R (element_of v)
+  keeps_element_of (ElementValue x) = record { kept = k.same }
+  keeps_element_of _ = record { kept = k.same }
+
+  keeps_fitting : (place : Place) (n : ℤ) → Keeps R (fitting place n)
+  keeps_fitting place n = keeps_either {this = gives (NumberValue n)} {other = traps Overflow place} (is_in_range n) (record { kept = k.same }) (record { kept = k.same })
+
+  keeps_divided : (place : Place) (b : ℤ) {by : Moment → Outcome Moment Value} → Keeps R by → Keeps R (divided place b by)
+  keeps_divided place b h = keeps_either {this = traps ZeroDivide place} (int_le b (pos 0) && int_le (pos 0) b) (record { kept = k.same }) h
+
+  number_keeps : (n : ℤ) → Keeps R (gives (NumberValue n))
+  number_keeps n = record { kept = k.same }
+
+  keeps_operated : (sign : Sign) (place : Place) (v w : Value) → Keeps R (operated sign place v w)
+  keeps_operated Or place (TruthValue a) (TruthValue b) = record { kept = k.same }
+  keeps_operated And place (TruthValue a) (TruthValue b) = record { kept = k.same }
+  keeps_operated Plus place (NumberValue a) (NumberValue b) = keeps_fitting place (a +ℤ b)
+  keeps_operated Minus place (NumberValue a) (NumberValue b) = keeps_fitting place (a -ℤ b)
+  keeps_operated Times place (NumberValue a) (NumberValue b) = keeps_fitting place (a *ℤ b)
+  keeps_operated Over place (NumberValue a) (NumberValue b) = keeps_divided place b (keeps_fitting place (int_div a b))
+  keeps_operated Rest place (NumberValue a) (NumberValue b) = keeps_divided place b (number_keeps (int_rem a b))
+  keeps_operated _ place _ _ = record { kept = k.same }
+
+  keeps_negated : (place : Place) (v : Value) → Keeps R (negated place v)
+  keeps_negated place (NumberValue n) = keeps_fitting place (neg_ℤ n)
+  keeps_negated place _ = record { kept = k.same }
+
+  keeps_denied : (v : Value) → Keeps R (denied v)
+  keeps_denied (TruthValue b) = record { kept = k.same }
+  keeps_denied _ = record { kept = k.same }
+
+  keeps_compared : (rel : Rel) (v w : Value) → Keeps R (compared rel v w)
+  keeps_compared rel (NumberValue a) (NumberValue b) = record { kept = k.same }
+  keeps_compared Same (ElementValue x) (ElementValue y) = record { kept = k.same }
+  keeps_compared Other (ElementValue x) (ElementValue y) = record { kept = k.same }
+  keeps_compared rel _ _ = record { kept = k.same }
+
+  keeps_id_at : (place : Place) (x : Option Elem) → Keeps R (id_at place x)
+  keeps_id_at place (Some x) = record { kept = k.same }
+  keeps_id_at place None = record { kept = k.same }
+
+  keeps_call : (mesh : MeshLists) (place : Place) (fun : Fun) (x : Option Elem) → Keeps R (call_of mesh place fun x)
+  keeps_call mesh place Head x = record { kept = k.same }
+  keeps_call mesh place Tail x = record { kept = k.same }
+  keeps_call mesh place Inside x = record { kept = k.same }
+  keeps_call mesh place Outside x = record { kept = k.same }
+  keeps_call mesh place Flip x = record { kept = k.same }
+  keeps_call mesh place Valid x = record { kept = k.same }
+  keeps_call mesh place Id x = keeps_id_at place x
+
+  keeps_scalar_read : (value : Option ℤ) → Keeps R (scalar_read value)
+  keeps_scalar_read (Some n) = record { kept = k.same }
+  keeps_scalar_read None = record { kept = k.same }
+
+  keeps_global_read : (global : Option Named) → Keeps R (global_read global)
+  keeps_global_read (Some (ScalarName number)) = record { kept = λ m. (keeps_scalar_read (scalar_value m.state number)).kept m }
+  keeps_global_read _ = record { kept = k.same }
+
+  keeps_name_read : (value : Option ℤ) (x : Option (Option Elem)) (global : Option Named) → Keeps R (name_read value x global)
+  keeps_name_read (Some n) x global = record { kept = k.same }
+  keeps_name_read None (Some x) global = record { kept = k.same }
+  keeps_name_read None None global = keeps_global_read global
+
+  keeps_read_spot : (spot : Spot) (value : Option ℤ) → Keeps R (read_spot spot value)
+  keeps_read_spot spot (Some n) = record { kept = k.read spot n }
+  keeps_read_spot spot None = record { kept = k.same }
+
+  keeps_field_read : (mesh : MeshLists) (place : Place) (global : Option Named) (x : Option Elem) → Keeps R (field_read mesh place global x)
+  keeps_field_read mesh place (Some (FieldName number kind)) (Some x) =
+      record { kept = λ m. (keeps_read_spot (spot_of number x) (held mesh m.state (spot_of number x))).kept m }
+  keeps_field_read mesh place (Some (FieldName number kind)) None = record { kept = k.same }
+  keeps_field_read mesh place _ x = record { kept = k.same }
+
+  value_keeps : (v : Value) → Keeps R (gives v)
+  value_keeps v = record { kept = k.same }
+
+  -- expressions
+  mutual
+    pub keeps_meaning : (mesh : MeshLists) (names : Names) (e : Expression) → Keeps R (meaning mesh names e)
+    keeps_meaning mesh names (Number place n) = record { kept = k.same }
+    keeps_meaning mesh names (Name place name) =
+        record { kept = λ m. (keeps_name_read (local_named m name) (element_named m name) (named names name)).kept m }
+    keeps_meaning mesh names (Field place name arg) =
+        keeps_then (keeps_meaning mesh names arg) (λ v. keeps_then (keeps_element_of v) (λ x. keeps_field_read mesh place (named names name) x))
+    keeps_meaning mesh names (Call place fun arg) =
+        keeps_then (keeps_meaning mesh names arg) (λ v. keeps_then (keeps_element_of v) (λ x. keeps_call mesh place fun x))
+    keeps_meaning mesh names (Towards place arg to) =
+        keeps_then (keeps_meaning mesh names arg) (λ v. keeps_then (keeps_element_of v)
+          (λ x. keeps_then (keeps_meaning mesh names to) (λ w. keeps_then (keeps_element_of w) (λ y. value_keeps (ElementValue (towards mesh x y))))))
+    keeps_meaning mesh names (Neg place arg) = keeps_then (keeps_meaning mesh names arg) (λ v. keeps_negated place v)
+    keeps_meaning mesh names (Not place arg) = keeps_then (keeps_meaning mesh names arg) (λ v. keeps_denied v)
+    keeps_meaning mesh names (Chain level first links) =
+        keeps_then (keeps_meaning mesh names first) (λ v. keeps_behind mesh names v links)
+    keeps_meaning mesh names (Compare place rel left right) =
+        keeps_then (keeps_meaning mesh names left) (λ v. keeps_then (keeps_meaning mesh names right) (λ w. keeps_compared rel v w))
+
+    keeps_behind : (mesh : MeshLists) (names : Names) (v : Value) (links : Links) → Keeps R (meaning_behind mesh names v links)
+    keeps_behind mesh names v no_links = record { kept = k.same }
+    keeps_behind mesh names v (link sign place arg more) =
+        keeps_then (keeps_either (is_decided sign v) (value_keeps v) (keeps_then (keeps_meaning mesh names arg) (λ w. keeps_operated sign place v w)))
+          (λ u. keeps_behind mesh names u more)
+
+  keeps_number_in : (mesh : MeshLists) (names : Names) (e : Expression) → Keeps R (number_in mesh names e)
+  keeps_number_in mesh names e = keeps_then (keeps_meaning mesh names e) (λ v. keeps_number_of v)
+
+  pub keeps_truth_in : (mesh : MeshLists) (names : Names) (e : Expression) → Keeps R (truth_in mesh names e)
+  keeps_truth_in mesh names e = keeps_then (keeps_meaning mesh names e) (λ v. keeps_truth_of v)
+
+  keeps_element_in : (mesh : MeshLists) (names : Names) (e : Expression) → Keeps R (element_in mesh names e)
+  keeps_element_in mesh names e = keeps_then (keeps_meaning mesh names e) (λ v. keeps_element_of v)
+
+  -- single steps of statements
+  keeps_spot : (spot : Spot) (how : How) (n : ℤ) (m : Moment) (value : Option ℤ) → value_in m.state.fields spot ≡ value
+      → R m (spot_assigned spot how n value m).after
+  keeps_spot spot how n m (Some old) e = k.spot_set spot how n old m e
+  keeps_spot spot how n m None e = k.same m
+
+  keeps_field_assigned : (place : Place) (how : How) (global : Option Named) (n : ℤ) (x : Option Elem) → Keeps R (field_assigned place how global n x)
+  keeps_field_assigned place how (Some (FieldName number kind)) n (Some x) =
+      record { kept = λ m. keeps_spot (spot_of number x) how n m (value_in m.state.fields (spot_of number x)) refl }
+  keeps_field_assigned place how (Some (FieldName number kind)) n None = record { kept = k.same }
+  keeps_field_assigned place how _ n x = record { kept = k.same }
+
+  keeps_scalar_assigned : (how : How) (n : ℤ) (scalar : ℕ) (value : Option ℤ) → Keeps R (scalar_assigned how n scalar value)
+  keeps_scalar_assigned how n scalar (Some old) = record { kept = k.scalar_set how n scalar old }
+  keeps_scalar_assigned how n scalar None = record { kept = k.same }
+
+  keeps_global_assigned : (how : How) (n : ℤ) (global : Option Named) → Keeps R (global_assigned how n global)
+  keeps_global_assigned how n (Some (ScalarName number)) =
+      record { kept = λ m. (keeps_scalar_assigned how n number (scalar_value m.state number)).kept m }
+  keeps_global_assigned how n _ = record { kept = k.same }
+
+  keeps_name_assigned : (name : List ℕ) (how : How) (n : ℤ) (value : Option ℤ) (global : Option Named) → Keeps R (name_assigned name how n value global)
+  keeps_name_assigned name how n (Some old) global = record { kept = k.local_set name (assigned how old n) }
+  keeps_name_assigned name how n None global = keeps_global_assigned how n global
+
+  local_assigned_keeps : (names : Names) (name : List ℕ) (how : How) (n : ℤ)
+      → Keeps R (λ m. name_assigned name how n (local_named m name) (named names name) m)
+  local_assigned_keeps names name how n = record { kept = λ m. (keeps_name_assigned name how n (local_named m name) (named names name)).kept m }
+
+  local_keeps : (name : List ℕ) (n : ℤ) → Keeps R (changes (with_local name n))
+  local_keeps name n = record { kept = k.local name n }
+
+  element_keeps : (name : List ℕ) (x : Option Elem) → Keeps R (changes (with_element name x))
+  element_keeps name x = record { kept = k.element name x }
+
+  keeps_block_end : (before s : Moment) → R before s → (answer : Result (Unit {0}) Stop)
+      → R before (go_on (λ done. changes (out_of_block before)) s answer).after
+  keeps_block_end before s r (Ok done) = k.block before s r
+  keeps_block_end before s r (Err stop) = r
+
+  pub keeps_in_block : {body : Moment → Outcome Moment (Unit {0})} → Keeps R body → Keeps R (in_block body)
+  keeps_in_block {body = body} h = record { kept = λ m. keeps_block_end m (body m).after (h.kept m) (body m).answer }
+
+  keeps_members : (mesh : MeshLists) (place : Place) {body : Option Elem → Moment → Outcome Moment (Unit {0})} → ((x : Option Elem) → Keeps R (body x))
+      → (set : Elem → List Elem) (x : Option Elem) → Keeps R (each_member mesh place body set x)
+  keeps_members mesh place h set (Some x) = keeps_each (λ member. keeps_in_block (h (Some member))) (set x)
+  keeps_members mesh place h set None = record { kept = k.same }
+
+  spent_keeps : (place : Place) → Keeps R (traps {A = Unit {0}} Spent place)
+  spent_keeps place = record { kept = k.same }
+
+  -- statements and bodies
+  mutual
+    pub keeps_statement : (mesh : MeshLists) (names : Names) (s : Statement) → Keeps R (statement_meaning mesh names s)
+    keeps_statement mesh names (Var place name at init) = keeps_then (keeps_number_in mesh names init) (λ n. local_keeps name n)
+    keeps_statement mesh names (Val place name at init) = keeps_then (keeps_element_in mesh names init) (λ x. element_keeps name x)
+    keeps_statement mesh names (Assign place name (Some target) how set_to) =
+        keeps_then (keeps_number_in mesh names set_to) (λ n. keeps_then (keeps_element_in mesh names target)
+          (λ x. keeps_field_assigned place how (named names name) n x))
+    keeps_statement mesh names (Assign place name None how set_to) =
+        keeps_then (keeps_number_in mesh names set_to) (λ n. local_assigned_keeps names name how n)
+    keeps_statement mesh names (If place test first second has_else) =
+        keeps_then (keeps_truth_in mesh names test) (λ b. keeps_either b (keeps_in_block (keeps_body mesh names first))
+          (keeps_in_block (keeps_body mesh names second)))
+    keeps_statement mesh names (While place test body) =
+        keeps_loop (spent_keeps place) (keeps_truth_in mesh names test) (keeps_in_block (keeps_body mesh names body))
+    keeps_statement mesh names (For place name at set set_at arg body) =
+        keeps_then (keeps_element_in mesh names arg) (λ x. keeps_members mesh set_at
+          (λ member. keeps_then (element_keeps name member) (λ done. keeps_body mesh names body)) (members mesh set) x)
+
+    pub keeps_body : (mesh : MeshLists) (names : Names) (body : Body) → Keeps R (body_meaning mesh names body)
+    keeps_body mesh names no_statement = record { kept = k.same }
+    keeps_body mesh names (statement s more) = keeps_then (keeps_statement mesh names s) (λ done. keeps_body mesh names more)

@@ -1,0 +1,3 @@
+pub mod Keeping
+pub mod KeptLaws
+pub mod Loops

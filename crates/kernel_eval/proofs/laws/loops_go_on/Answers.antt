@@ -1,0 +1,10 @@
+use Rattle.kernel_eval.specs.Meaning.{body_meaning, in_block, truth_in}
+use Rattle.kernel_eval.proofs.Keeping.{keeps_body, keeps_in_block, keeps_truth_in}
+use Rattle.kernel_eval.proofs.KeptLaws.{turns_kept}
+use Rattle.kernel_eval.proofs.Loops.{loop_is}
+use Rattle.kernel_eval.proofs.laws.loops_go_on.Goals as goal
+
+pub returns : goal.returns
+returns c mesh names place test body =
+    loop_is place (in_block (body_meaning mesh names body)) (keeps_in_block turns_kept (keeps_body turns_kept mesh names body))
+      (truth_in mesh names test) (keeps_truth_in turns_kept mesh names test)

@@ -1,0 +1,61 @@
+-- Expressions and assignments of the worked cases. This project's own.
+use Rattle.std.specs.Prelude.{ℕ, ◌^◌, ◌-◌, false, Option, Some, None, List, [], ◌∷◌, codes, ℤ, pos, neg_ℤ, Result, Ok, Err}
+use Rattle.liszt_base.specs.declared.answers.Place.{Place}
+use Rattle.liszt_base.specs.declared.answers.TrapKind.{TrapKind}
+use Rattle.liszt_base.specs.declared.elements.Elem.{Elem}
+use Rattle.liszt_tree.specs.declared.tree.Level.{Level}
+use Rattle.liszt_tree.specs.declared.tree.Level.TheVariants as level
+use Rattle.liszt_tree.specs.declared.tree.Rel.TheVariants.{Same as Equal}
+use Rattle.liszt_tree.specs.declared.tree.Sign.{Sign}
+use Rattle.liszt_tree.specs.declared.tree.Sign.TheVariants as sign
+use Rattle.liszt_tree.specs.Tree.{nowhere, Expression, Number, Name, Neg, Chain, Compare, no_links, link}
+use Rattle.mesh_topology.specs.Meshes.{one_cell}
+use Rattle.kernel_eval.specs.Outcomes.{Stop, Trapped}
+use Rattle.kernel_eval.specs.States.{State, Moment, in_main}
+use Rattle.kernel_eval.specs.Meaning.{Value, NumberValue, TruthValue, meaning}
+
+abbrev pub empty : State
+empty = record { fields = []; scalars = []; prints = []; turns = 0 }
+
+-- what an expression without names gives, or the trap
+abbrev pub given : Expression → Result Value Stop
+given e = (meaning one_cell [] e (in_main empty)).answer
+
+abbrev pub gives_number : ℤ → Result Value Stop
+gives_number n = Ok (NumberValue n)
+
+abbrev pub traps_at : TrapKind → Place → Result Value Stop
+traps_at kind place = Err (Trapped (record { kind = kind; place = place; elem = None }))
+
+abbrev pub least : ℤ
+least = neg_ℤ (pos (2 ^ 63))
+
+abbrev pub greatest : ℤ
+greatest = pos (2 ^ 63 - 1)
+
+abbrev pub here : Place
+here = record { line = 3; col = 7 }
+
+-- two numbers by an operator that stands at that place
+abbrev pub by : Sign → ℤ → ℤ → Expression
+by s a b = Chain level.Product (Number nowhere a) (link s here (Number nowhere b) no_links)
+
+abbrev pub minus : ℤ → Expression
+minus n = Neg here (Number nowhere n)
+
+-- `1 / 0 == 0`, with `/` at that place, behind another operand
+abbrev pub divides_by_zero : Expression
+divides_by_zero = Compare nowhere Equal (by sign.Over (pos 1) (pos 0)) (Number nowhere (pos 0))
+
+abbrev pub is_number : ℤ → ℤ → Expression
+is_number a b = Compare nowhere Equal (Number nowhere a) (Number nowhere b)
+
+abbrev pub both : Expression → Expression → Expression
+both a b = Chain level.And a (link sign.And nowhere b no_links)
+
+abbrev pub one_of : Expression → Expression → Expression
+one_of a b = Chain level.Or a (link sign.Or nowhere b no_links)
+
+-- three numbers by two operators, the second at that place
+abbrev pub chained : ℤ → Sign → ℤ → Sign → ℤ → Expression
+chained a s b t c = Chain level.Sum (Number nowhere a) (link s nowhere (Number nowhere b) (link t here (Number nowhere c) no_links))

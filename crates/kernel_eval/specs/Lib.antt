@@ -1,0 +1,6 @@
+pub mod Cases
+pub mod Iterations
+pub mod Kept
+pub mod Meaning
+pub mod Outcomes
+pub mod States

@@ -1,0 +1,39 @@
+//! Laws of the definitions, each the contract of a function that does nothing.
+
+ghost use Rattle.liszt_base.specs.MeshLists.{MeshLists};
+ghost use Rattle.std.specs.Prelude.{◌≡◌, Err};
+ghost use Rattle.liszt_base.specs.declared.answers.Place.{Place};
+ghost use Rattle.liszt_base.specs.declared.answers.TrapKind.TheVariants.{Spent};
+ghost use Rattle.liszt_tree.specs.Tree.{Body, Expression, Statement, While, statement};
+ghost use Rattle.phase_types.specs.Names.{Names};
+ghost use Rattle.kernel_eval.specs.Kept.{Keeps, HasNoMoreTurns, MakesFields, loop_once};
+ghost use Rattle.kernel_eval.specs.Outcomes.{Stop, stops};
+ghost use Rattle.kernel_eval.specs.States.{Moment};
+ghost use Rattle.kernel_eval.specs.Meaning.{body_meaning, in_block, moment_turns, statement_meaning, traps, truth_in};
+
+/// Turns never rise, whatever a body does.
+pub fn turns_never_rise()
+    ensures { (mesh : MeshLists) (names : Names) (body : Body) → Keeps HasNoMoreTurns (body_meaning mesh names body) }
+{}
+
+/// The acts of a body tell all that it does to fields, also where it traps: what was there, with its writes and reductions one after the
+/// other, is what is there afterwards. So a field that no act writes or reduces stays as it was.
+pub fn acts_make_fields()
+    ensures { (mesh : MeshLists) (names : Names) (body : Body) → Keeps MakesFields (body_meaning mesh names body) }
+{}
+
+/// A `while` is its test, and where that is true a turn, its body in a block of its own, and then the same `while` again; where no turn is left it
+/// traps. So turns alone bound it.
+pub fn loops_go_on()
+    ensures { (mesh : MeshLists) (names : Names) (place : Place) (test : Expression) (body : Body) (m : Moment)
+        → statement_meaning mesh names (While place test body) m
+        ≡ loop_once moment_turns (traps Spent place) (truth_in mesh names test) (in_block (body_meaning mesh names body))
+            (statement_meaning mesh names (While place test body)) m }
+{}
+
+/// Nothing happens behind a statement that stops: what stands at its stop, with its acts so far, is what the body leaves.
+pub fn stops_end()
+    ensures { (mesh : MeshLists) (names : Names) (s : Statement) (more : Body) (m : Moment) (stop : Stop)
+        → (statement_meaning mesh names s m).answer ≡ Err stop
+        → body_meaning mesh names (statement s more) m ≡ stops stop (statement_meaning mesh names s m).after }
+{}

@@ -1,0 +1,5 @@
+//! What the bodies of comprehensions mean. So far there are the definitions, with worked cases and laws.
+#![tactic(auto)]
+
+mod cases;
+pub mod laws;

@@ -1,0 +1,131 @@
+-- Programs of the worked cases, with the places of their texts where a fault may stand. This project's own.
+use Rattle.std.specs.Prelude.{◌≡◌, ℕ, true, false, Option, Some, None, List, [], ◌∷◌, codes, pos}
+use Rattle.liszt_base.specs.declared.answers.Place.{Place}
+use Rattle.liszt_base.specs.declared.answers.ProgramFault.{ProgramFault}
+use Rattle.liszt_base.specs.declared.answers.ProgramWhat.{ProgramWhat}
+use Rattle.liszt_base.specs.declared.answers.ProgramWhat.TheVariants.{PhaseConflict}
+use Rattle.liszt_base.specs.declared.elements.Kind.{Kind}
+use Rattle.liszt_base.specs.declared.elements.Kind.TheVariants.{Vertex, Edge, Face, Cell}
+use Rattle.liszt_base.specs.declared.elements.Op.TheVariants.{Add, Mul}
+use Rattle.liszt_base.specs.declared.elements.SetName.TheVariants.{Vertices, Edges}
+use Rattle.liszt_tree.specs.declared.tree.Fun.TheVariants.{Head}
+use Rattle.liszt_tree.specs.declared.tree.How.TheVariants.{Set, Fold, Less}
+use Rattle.liszt_tree.specs.declared.tree.Level.TheVariants as level
+use Rattle.liszt_tree.specs.declared.tree.Rel.TheVariants.{Same as Equal, Below}
+use Rattle.liszt_tree.specs.declared.tree.Sign.TheVariants as sign
+use Rattle.liszt_tree.specs.Tree.{nowhere, Expression, Number, Name, Field, Call, Chain, Compare, no_links, link}
+use Rattle.liszt_tree.specs.Tree.{Statement, Var, Val, Assign, While, For, Body, no_statement, statement}
+use Rattle.liszt_tree.specs.Tree.{MainItem, MainField, MainVar, MainAssign, MainIf, MainWhile, MainFor, Print, Main, no_item, item}
+use Rattle.liszt_tree.specs.Trees.{name, number}
+
+abbrev pub at : ℕ → ℕ → Place
+at line col = record { line = line; col = col }
+
+abbrev pub fault : ProgramWhat → ℕ → ℕ → Option ProgramFault
+fault what line col = Some (record { what = what; place = at line col; first = None })
+
+abbrev pub conflict_between : Place → Place → Option ProgramFault
+conflict_between place first = Some (record { what = PhaseConflict; place = place; first = Some first })
+
+abbrev pub named_at : ℕ → ℕ → List ℕ → Expression
+named_at line col text = Name (at line col) text
+
+abbrev pub is_zero : Expression
+is_zero = Compare nowhere Equal (number 0) (number 0)
+
+abbrev pub one : Statement → Body
+one s = statement s no_statement
+
+abbrev pub only : MainItem → Main
+only i = item i no_item
+
+-- `field A : Cell = 0;` and on the next line `for (c <- cells(mesh)) {`, a body, and `}`
+abbrev pub over_cells : Body → Main
+over_cells body = item (MainField (at 1 1) (codes "A") (at 1 7) Cell (number 0)) (only (MainFor (at 2 1) (codes "c") (at 2 6) Cell body))
+
+-- `A(c) += 1` at a column of that line
+abbrev pub adds_to_cell : ℕ → Expression → Statement
+adds_to_cell col value = Assign (at 2 col) (codes "A") (Some (name (codes "c"))) (Fold Add) value
+
+abbrev pub cell_value : ℕ → Expression
+cell_value col = Field (at 2 col) (codes "A") (name (codes "c"))
+
+-- `A(c) += A(c)`; `A(c) += 1; A(c) *= 2`; `A(c) += 1; A(c) = x`; `A(c) -= 1; A(c) += 1`
+abbrev pub adds_itself : Main
+adds_itself = over_cells (one (adds_to_cell 26 (cell_value 34)))
+
+abbrev pub adds_and_multiplies : Main
+adds_and_multiplies =
+    over_cells (statement (adds_to_cell 26 (number 1)) (one (Assign (at 2 37) (codes "A") (Some (name (codes "c"))) (Fold Mul) (number 2))))
+
+abbrev pub adds_and_writes : Main
+adds_and_writes =
+    over_cells (statement (adds_to_cell 26 (number 1)) (one (Assign (at 2 37) (codes "A") (Some (name (codes "c"))) Set (named_at 2 44 (codes "x")))))
+
+abbrev pub adds_and_takes : Main
+adds_and_takes =
+    over_cells (statement (adds_to_cell 26 (number 1)) (one (Assign (at 2 37) (codes "A") (Some (name (codes "c"))) Less (number 1))))
+
+-- `print x`; `var a = 1; var a = 2`; `var a = 1 == 1`
+abbrev pub unknown_name : Main
+unknown_name = only (Print (at 1 1) (named_at 1 7 (codes "x")))
+
+abbrev pub name_twice : Main
+name_twice = item (MainVar (at 1 1) (codes "a") (at 1 5) (number 1)) (only (MainVar (at 1 12) (codes "a") (at 1 16) (number 2)))
+
+abbrev pub truth_as_number : Main
+truth_as_number = only (MainVar (at 1 1) (codes "a") (at 1 5) (Compare (at 1 11) Equal (number 1) (number 1)))
+
+-- `print 1 + 2 + (0 == 0)`, and `print (0 == 0) + 1 + 2`
+abbrev pub third_operand : Main
+third_operand =
+    only (Print (at 1 1) (Chain level.Sum (number 1) (link sign.Plus (at 1 9) (number 2) (link sign.Plus (at 1 13) is_zero no_links))))
+
+abbrev pub first_operand : Main
+first_operand =
+    only (Print (at 1 1) (Chain level.Sum is_zero (link sign.Plus (at 1 16) (number 1) (link sign.Plus (at 1 20) (number 2) no_links))))
+
+-- `var s = 0;` and then `for (c <- cells(mesh)) { s = 1 }`, or `{ s += s }`
+abbrev pub scalar_in_body : Statement → Main
+scalar_in_body s = item (MainVar (at 1 1) (codes "s") (at 1 5) (number 0)) (only (MainFor (at 2 1) (codes "c") (at 2 6) Cell (one s)))
+
+abbrev pub writes_scalar : Main
+writes_scalar = scalar_in_body (Assign (at 2 26) (codes "s") None Set (number 1))
+
+abbrev pub adds_scalar_to_itself : Main
+adds_scalar_to_itself = scalar_in_body (Assign (at 2 26) (codes "s") None (Fold Add) (named_at 2 31 (codes "s")))
+
+-- `for (v <- vertices(mesh)) { Mark(v) = 1 }`
+abbrev pub writes_mark : Main
+writes_mark = only (MainFor (at 1 1) (codes "v") (at 1 6) Vertex (one (Assign (at 1 29) (codes "Mark") (Some (named_at 1 34 (codes "v"))) Set (number 1))))
+
+-- `for (e <- edges(mesh)) { for (x <- edges(e)) { } }`, and with `vertices(head(x))` in place of `edges(e)`
+abbrev pub edges_of_edge : Main
+edges_of_edge =
+    only (MainFor (at 1 1) (codes "e") (at 1 6) Edge (one (For (at 1 26) (codes "x") (at 1 31) Edges (at 1 36) (named_at 1 42 (codes "e")) no_statement)))
+
+abbrev pub unknown_in_set : Main
+unknown_in_set =
+    only (MainFor (at 1 1) (codes "e") (at 1 6) Edge
+    (one (For (at 1 26) (codes "x") (at 1 31) Vertices (at 1 36) (Call (at 1 45) Head (named_at 1 50 (codes "x"))) no_statement)))
+
+-- `field F : Vertex = 0;` and on the next line `for (e <- edges(mesh)) { F(e) = y }`
+abbrev pub edge_for_vertex : Main
+edge_for_vertex =
+    item (MainField (at 1 1) (codes "F") (at 1 7) Vertex (number 0))
+    (only (MainFor (at 2 1) (codes "e") (at 2 6) Edge
+    (one (Assign (at 2 26) (codes "F") (Some (named_at 2 28 (codes "e"))) Set (named_at 2 33 (codes "y"))))))
+
+-- Names end with their block: `var i = 0; if (0 == 0) { field B : Edge = 1; var x = 1 } else { field B : Face = 2 }
+-- while (i < 2) { var x = 2; for (v <- vertices(mesh)) { while (0 == 0) { var y = 1 } val y = v } } field C : Cell = 3`
+abbrev pub blocks : Main
+blocks =
+    item (MainVar nowhere (codes "i") nowhere (number 0))
+    (item (MainIf nowhere is_zero
+    (item (MainField nowhere (codes "B") nowhere Edge (number 1)) (only (MainVar nowhere (codes "x") nowhere (number 1))))
+    (only (MainField nowhere (codes "B") nowhere Face (number 2))) true)
+    (item (MainWhile nowhere (Compare nowhere Below (name (codes "i")) (number 2))
+    (item (MainVar nowhere (codes "x") nowhere (number 2)) (only (MainFor nowhere (codes "v") nowhere Vertex
+    (statement (While nowhere is_zero (one (Var nowhere (codes "y") nowhere (number 1))))
+    (one (Val nowhere (codes "y") nowhere (name (codes "v")))))))))
+    (only (MainField nowhere (codes "C") nowhere Cell (number 3)))))

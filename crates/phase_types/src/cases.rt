@@ -1,0 +1,56 @@
+//! Worked cases of the definitions, which the checker computes. Each function does nothing; its contract is the case.
+#![allow(dead_code)]
+
+ghost use Rattle.std.specs.Prelude.{◌≡◌, Some, None, [], ◌∷◌, codes, map};
+ghost use Rattle.liszt_base.specs.declared.accesses.Mode.TheVariants.{Read, Reduce};
+ghost use Rattle.liszt_base.specs.declared.answers.ProgramWhat.TheVariants.{NameUnknown, NameTwice, TypeMismatch, ScalarWrite, BuiltinWrite};
+ghost use Rattle.liszt_base.specs.declared.elements.Kind.TheVariants.{Vertex, Edge, Face, Cell};
+ghost use Rattle.liszt_base.specs.declared.elements.Op.TheVariants.{Add};
+ghost use Rattle.liszt_tree.specs.Trees.{degrees, over_faces};
+ghost use Rattle.phase_types.specs.Cases.{at, fault, conflict_between, adds_itself, adds_and_multiplies, adds_and_writes, adds_and_takes, unknown_name, name_twice, truth_as_number, third_operand, first_operand, writes_scalar, adds_scalar_to_itself, writes_mark, edges_of_edge, unknown_in_set, edge_for_vertex, blocks};
+ghost use Rattle.phase_types.specs.Names.{fields_of, scalars_of, comprehensions_of, scopes_of};
+ghost use Rattle.phase_types.specs.Walk.{check_fault, mode_of, scalar_mode_of};
+
+/// Each fault once, at its place; of a phase conflict also the place of the first access.
+fn faults()
+    ensures unknown { check_fault unknown_name ≡ fault NameUnknown 1 7 }
+    ensures twice { check_fault name_twice ≡ fault NameTwice 1 16 }
+    ensures mismatch { check_fault truth_as_number ≡ fault TypeMismatch 1 11 }
+    ensures third_operand { check_fault third_operand ≡ fault TypeMismatch 1 13 }
+    ensures first_operand { check_fault first_operand ≡ fault TypeMismatch 1 16 }
+    ensures read_and_reduced { check_fault adds_itself ≡ conflict_between (at 2 34) (at 2 26) }
+    ensures two_operators { check_fault adds_and_multiplies ≡ conflict_between (at 2 37) (at 2 26) }
+    ensures scalar_written { check_fault writes_scalar ≡ fault ScalarWrite 2 26 }
+    ensures scalar_conflict { check_fault adds_scalar_to_itself ≡ conflict_between (at 2 31) (at 2 26) }
+    ensures built_in_written { check_fault writes_mark ≡ fault BuiltinWrite 1 29 }
+    ensures no_such_set { check_fault edges_of_edge ≡ fault TypeMismatch 1 36 }
+{}
+
+/// Of two faults the walk finds that of the earlier step: a phase conflict before the value's unknown name, the target's kind before the
+/// value, and the argument of a set before the set. `-=` is a reduction by `+`.
+fn first_of_two()
+    ensures conflict_before_value { check_fault adds_and_writes ≡ conflict_between (at 2 37) (at 2 26) }
+    ensures target_before_value { check_fault edge_for_vertex ≡ fault TypeMismatch 2 26 }
+    ensures argument_before_set { check_fault unknown_in_set ≡ fault NameUnknown 1 50 }
+    ensures one_operator { check_fault adds_and_takes ≡ None }
+{}
+
+/// Names end with their block, and fields, scalars, comprehensions and scopes are numbered in the order of the text.
+fn parts_of_a_program()
+    ensures typed { check_fault blocks ≡ None }
+    ensures names { map (λ f. f.name) (fields_of blocks) ≡ codes "B" ∷ codes "B" ∷ codes "C" ∷ [] }
+    ensures kinds { map (λ f. f.kind) (fields_of blocks) ≡ Edge ∷ Face ∷ Cell ∷ [] }
+    ensures scopes { map (λ f. f.scope) (fields_of blocks) ≡ 1 ∷ 2 ∷ 0 ∷ [] }
+    ensures scalars { scalars_of blocks ≡ codes "i" ∷ codes "x" ∷ codes "x" ∷ [] }
+    ensures parents { scopes_of blocks ≡ 0 ∷ 0 ∷ 0 ∷ 0 ∷ [] }
+    ensures comprehensions { map (λ c. c.over) (comprehensions_of blocks) ≡ Vertex ∷ [] }
+{}
+
+/// Modes of the fields and scalars of a comprehension: `Deg(head(e)) += 1` reduces field 6, and nothing else is accessed.
+fn modes()
+    ensures reduced { mode_of degrees 0 6 ≡ Some (Reduce Add) }
+    ensures other_field { mode_of degrees 0 0 ≡ None }
+    ensures no_comprehension { mode_of degrees 1 6 ≡ None }
+    ensures scalar { scalar_mode_of adds_scalar_to_itself 0 0 ≡ Some (Reduce Add) }
+    ensures degrees_typed { check_fault degrees ≡ None }
+{}
