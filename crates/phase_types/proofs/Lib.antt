@@ -1,1 +1,5 @@
+pub mod Checking
+pub mod Parts
+pub mod Phases
 pub mod Typing
+pub mod Walking

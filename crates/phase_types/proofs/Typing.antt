@@ -61,7 +61,7 @@ operator_own : (sign : Sign) → operator_type sign (Some (operand_type sign)) (
 operator_own sign =
     ap (option_and_then (λ type. only_of (operand_type sign) (Some (operand_type sign)))) (only_same (operand_type sign)) ∙ only_same (operand_type sign)
 
-operator_fits : (sign : Sign) (type : ValueType) (arg : Option ValueType) → operand_type sign ≡ type → arg ≡ Some type
+pub operator_fits : (sign : Sign) (type : ValueType) (arg : Option ValueType) → operand_type sign ≡ type → arg ≡ Some type
     → operator_type sign (Some type) arg ≡ Some type
 operator_fits sign type arg is e =
     ap (operator_type sign (Some type)) e ∙ subst (λ type. operator_type sign (Some type) (Some type) ≡ Some type) is (operator_own sign)

@@ -1,5 +1,5 @@
 -- What the names of a program stand for, and what it declares, in the order of its text. This project's own.
-use Rattle.std.specs.Prelude.{ℕ, ◌+◌, nat_lt, Bool, true, false, if◌then◌else◌, Option, Some, None, List, [], ◌∷◌, ◌++◌, length, codes, slice_get}
+use Rattle.std.specs.Prelude.{◌≡◌, ℕ, ◌+◌, nat_lt, Bool, true, false, if◌then◌else◌, Option, Some, None, List, [], ◌∷◌, ◌++◌, length, codes, slice_get}
 use Rattle.std.specs.List.{find, filter_map}
 use Rattle.std.specs.Option.{option_map}
 use Rattle.std.specs.Str.{bytes_eq}
@@ -50,29 +50,33 @@ pub data Part : Type 0 where
   ComprehensionPart : Comprehension → Part
   ScopePart : ℕ → Part
 
+abbrev pub field_part : Part → Option FieldInfo
+field_part (FieldPart info) = Some info
+field_part _ = None
+
+abbrev pub scalar_part : Part → Option (List ℕ)
+scalar_part (ScalarPart name) = Some name
+scalar_part _ = None
+
+abbrev pub comprehension_part : Part → Option Comprehension
+comprehension_part (ComprehensionPart c) = Some c
+comprehension_part _ = None
+
+abbrev pub scope_part : Part → Option ℕ
+scope_part (ScopePart parent) = Some parent
+scope_part _ = None
+
 abbrev pub fields_in : List Part → List FieldInfo
-fields_in parts = filter_map field parts where
-  field : Part → Option FieldInfo
-  field (FieldPart info) = Some info
-  field _ = None
+fields_in parts = filter_map field_part parts
 
 abbrev pub scalars_in : List Part → List (List ℕ)
-scalars_in parts = filter_map scalar parts where
-  scalar : Part → Option (List ℕ)
-  scalar (ScalarPart name) = Some name
-  scalar _ = None
+scalars_in parts = filter_map scalar_part parts
 
 abbrev pub comprehensions_in : List Part → List Comprehension
-comprehensions_in parts = filter_map comprehension parts where
-  comprehension : Part → Option Comprehension
-  comprehension (ComprehensionPart c) = Some c
-  comprehension _ = None
+comprehensions_in parts = filter_map comprehension_part parts
 
 abbrev pub scopes_in : List Part → List ℕ
-scopes_in parts = filter_map scope parts where
-  scope : Part → Option ℕ
-  scope (ScopePart parent) = Some parent
-  scope _ = None
+scopes_in parts = filter_map scope_part parts
 
 -- A PLACE IN THE MAIN PROGRAM, as it is seen there: the names visible, the scope, and all parts before it in the text
 pub record Here : Type 0 where
@@ -162,3 +166,8 @@ comprehension_of program k = slice_get (comprehensions_of program) k
 
 abbrev pub scopes_of : Main → List ℕ
 scopes_of program = scopes_in (parts program)
+
+-- What the laws speak of: parts go on from others.
+pub record GoesOn (before after : List Part) : Type 0 where
+  pub more : List Part
+  pub is : after ≡ before ++ more
