@@ -11,16 +11,16 @@ use Rattle.liszt_tree.specs.declared.tree.Fun.{Fun}
 use Rattle.liszt_tree.specs.declared.tree.Fun.TheVariants.{Head, Tail, Inside, Outside, Flip, Valid, Id}
 use Rattle.liszt_tree.specs.declared.tree.How.{How}
 use Rattle.liszt_tree.specs.declared.tree.Rel.{Rel}
-use Rattle.liszt_tree.specs.declared.tree.Rel.TheVariants.{Same, Other, Below, AtMost, Above, AtLeast}
+use Rattle.liszt_tree.specs.declared.tree.Rel.TheVariants.{Same, Other}
 use Rattle.liszt_tree.specs.declared.tree.Sign.{Sign}
 use Rattle.liszt_tree.specs.declared.tree.Sign.TheVariants.{Or, And, Plus, Minus, Times, Over, Rest}
 use Rattle.liszt_tree.specs.Tree.{Expression, Number, Name, Field, Call, Towards, Neg, Not, Chain, Compare, Links, no_links, link}
 use Rattle.liszt_tree.specs.Tree.{Statement, Var, Val, Assign, If, While, For, Body, no_statement, statement}
 use Rattle.topo_operators.specs.Operators.{towards, members}
-use Rattle.phase_types.specs.Names.{Names, Named, FieldName, ScalarName, LocalName, ElementName, named}
+use Rattle.phase_types.specs.Names.{Names, Named, FieldName, ScalarName, named}
 use Rattle.phase_types.specs.Walk.{mode_by}
 use Rattle.kernel_eval.specs.Kept.{Keeps}
-use Rattle.kernel_eval.specs.Outcomes.{Stop, Outcome, gives, go_on, and_then, either, each, does_nothing, changes, Turns, taking_a_turn, loop_within, loop}
+use Rattle.kernel_eval.specs.Outcomes.{Stop, Outcome, gives, go_on, and_then, either, each, does_nothing, changes, taking_a_turn, loop_within, loop}
 use Rattle.kernel_eval.specs.States.{Moment, value_in, with_value, with_fields, with_scalar_value, scalar_value, with_local, with_local_value, with_element, with_act, with_state, out_of_block, local_named, element_named}
 use Rattle.kernel_eval.specs.Meaning.{Value, NumberValue, TruthValue, ElementValue, number_of, truth_of, element_of, fitting, divided, operated, is_decided, negated, denied, compared, id_at, call_of, scalar_read, global_read, name_read, read_spot, field_read, spot_of, held, is_in_range, meaning, meaning_behind, number_in, truth_in, element_in, operand, assigned, spot_assigned, field_assigned, folds_of, scalar_assigned, global_assigned, name_assigned, in_block, moment_turns, each_member, statement_meaning, body_meaning, traps}
 
@@ -32,9 +32,9 @@ pub record IsKept (R : Moment → Moment → Type 0) : Type 0 where
   pub element : (name : List ℕ) (x : Option Elem) (m : Moment) → R m (with_element name x m)
   pub read : (spot : Spot) (n : ℤ) (m : Moment) → R m (with_act (record { spot = spot; mode = Read; value = n }) m)
   pub spot_set : (spot : Spot) (how : How) (n old : ℤ) (m : Moment) → value_in m.state.fields spot ≡ Some old
-    → R m (with_act (record { spot = spot; mode = mode_by how; value = operand how n }) (with_state (with_fields (with_value spot (assigned how old n) m.state.fields) m.state) m))
+      → R m (with_act (record { spot = spot; mode = mode_by how; value = operand how n }) (with_state (with_fields (with_value spot (assigned how old n) m.state.fields) m.state) m))
   pub scalar_set : (how : How) (n : ℤ) (scalar : ℕ) (old : ℤ) (m : Moment)
-    → R m (folds_of how scalar n (with_state (with_scalar_value scalar (assigned how old n) m.state) m))
+      → R m (folds_of how scalar n (with_state (with_scalar_value scalar (assigned how old n) m.state) m))
   pub block : (before m : Moment) → R before m → R before (out_of_block before m)
   pub turn : (n : ℕ) (m : Moment) → m.state.turns ≡ suc n → R m (with_state (record m.state { turns = n }) m)
 
@@ -176,7 +176,7 @@ module _ {R : Moment → Moment → Type 0} (k : IsKept R) where
         keeps_then (keeps_meaning mesh names arg) (λ v. keeps_then (keeps_element_of v) (λ x. keeps_call mesh place fun x))
     keeps_meaning mesh names (Towards place arg to) =
         keeps_then (keeps_meaning mesh names arg) (λ v. keeps_then (keeps_element_of v)
-          (λ x. keeps_then (keeps_meaning mesh names to) (λ w. keeps_then (keeps_element_of w) (λ y. value_keeps (ElementValue (towards mesh x y))))))
+        (λ x. keeps_then (keeps_meaning mesh names to) (λ w. keeps_then (keeps_element_of w) (λ y. value_keeps (ElementValue (towards mesh x y))))))
     keeps_meaning mesh names (Neg place arg) = keeps_then (keeps_meaning mesh names arg) (λ v. keeps_negated place v)
     keeps_meaning mesh names (Not place arg) = keeps_then (keeps_meaning mesh names arg) (λ v. keeps_denied v)
     keeps_meaning mesh names (Chain level first links) =
@@ -188,7 +188,7 @@ module _ {R : Moment → Moment → Type 0} (k : IsKept R) where
     keeps_behind mesh names v no_links = record { kept = k.same }
     keeps_behind mesh names v (link sign place arg more) =
         keeps_then (keeps_either (is_decided sign v) (value_keeps v) (keeps_then (keeps_meaning mesh names arg) (λ w. keeps_operated sign place v w)))
-          (λ u. keeps_behind mesh names u more)
+        (λ u. keeps_behind mesh names u more)
 
   keeps_number_in : (mesh : MeshLists) (names : Names) (e : Expression) → Keeps R (number_in mesh names e)
   keeps_number_in mesh names e = keeps_then (keeps_meaning mesh names e) (λ v. keeps_number_of v)
@@ -257,17 +257,17 @@ module _ {R : Moment → Moment → Type 0} (k : IsKept R) where
     keeps_statement mesh names (Val place name at init) = keeps_then (keeps_element_in mesh names init) (λ x. element_keeps name x)
     keeps_statement mesh names (Assign place name (Some target) how set_to) =
         keeps_then (keeps_number_in mesh names set_to) (λ n. keeps_then (keeps_element_in mesh names target)
-          (λ x. keeps_field_assigned place how (named names name) n x))
+        (λ x. keeps_field_assigned place how (named names name) n x))
     keeps_statement mesh names (Assign place name None how set_to) =
         keeps_then (keeps_number_in mesh names set_to) (λ n. local_assigned_keeps names name how n)
     keeps_statement mesh names (If place test first second has_else) =
         keeps_then (keeps_truth_in mesh names test) (λ b. keeps_either b (keeps_in_block (keeps_body mesh names first))
-          (keeps_in_block (keeps_body mesh names second)))
+        (keeps_in_block (keeps_body mesh names second)))
     keeps_statement mesh names (While place test body) =
         keeps_loop (spent_keeps place) (keeps_truth_in mesh names test) (keeps_in_block (keeps_body mesh names body))
     keeps_statement mesh names (For place name at set set_at arg body) =
         keeps_then (keeps_element_in mesh names arg) (λ x. keeps_members mesh set_at
-          (λ member. keeps_then (element_keeps name member) (λ done. keeps_body mesh names body)) (members mesh set) x)
+        (λ member. keeps_then (element_keeps name member) (λ done. keeps_body mesh names body)) (members mesh set) x)
 
     pub keeps_body : (mesh : MeshLists) (names : Names) (body : Body) → Keeps R (body_meaning mesh names body)
     keeps_body mesh names no_statement = record { kept = k.same }

@@ -1,5 +1,5 @@
 -- What meanings keep: turns never rise, and acts make the fields.
-use Rattle.std.proofs.Common.{◌≡◌, ℕ, suc, ◌≤◌, List, [], ◌∷◌, ◌++◌, refl, sym, ap, subst, ◌∙◌, arith}
+use Rattle.std.proofs.Common.{◌≡◌, ℕ, List, [], ◌∷◌, ◌++◌, refl, sym, ap, ◌∙◌, arith}
 use Rattle.std.proofs.lemmas.List.{append-nil, append_assoc}
 use Rattle.std.specs.Prelude.{Option, Some, None, ℤ}
 use Rattle.liszt_base.specs.declared.accesses.Mode.TheVariants.{Read}
@@ -9,7 +9,7 @@ use Rattle.liszt_tree.specs.declared.tree.How.TheVariants.{Set, Fold, Less}
 use Rattle.phase_types.specs.Walk.{mode_by}
 use Rattle.kernel_eval.specs.Kept.{HasNoMoreTurns, by_act, after_acts, MakesFields}
 use Rattle.kernel_eval.specs.Meaning.{operand, assigned, folds_of}
-use Rattle.kernel_eval.specs.States.{Fields, value_in, with_value, with_fields, Act, Moment, with_state, with_act, with_scalar_value}
+use Rattle.kernel_eval.specs.States.{Fields, value_in, with_value, Act, Moment, with_state, with_scalar_value}
 use Rattle.kernel_eval.proofs.Keeping.{IsKept}
 
 abbrev folded : How → ℤ → ℕ → ℤ → Moment → Moment
@@ -32,7 +32,7 @@ turns_kept =
       spot_set = λ spot how n old m e. omega arith;
       scalar_set = λ how n scalar old m. omega (arith, folded_turns how n scalar old m);
       block = λ before m r. r;
-      turn = λ n m e. omega (arith, e)
+      turn = λ n m e. omega (arith, e);
     }
 
 -- no act, and one act
@@ -64,7 +64,7 @@ both a b c r s =
     record {
       more = r.more ++ s.more;
       acts_are = s.acts_are ∙ ap (λ acts. acts ++ s.more) r.acts_are ∙ append_assoc a.acts r.more s.more;
-      fields_are = s.fields_are ∙ ap (λ fields. after_acts fields s.more) r.fields_are ∙ sym (after_more r.more s.more a.state.fields)
+      fields_are = s.fields_are ∙ ap (λ fields. after_acts fields s.more) r.fields_are ∙ sym (after_more r.more s.more a.state.fields);
     }
 
 pub fields_made : IsKept MakesFields
@@ -75,12 +75,18 @@ fields_made =
       local = λ name n m. no_act m _ refl refl;
       local_set = λ name n m. no_act m _ refl refl;
       element = λ name x m. no_act m _ refl refl;
-      read = λ spot n m. record { more = record { spot = spot; mode = Read; value = n } ∷ []; acts_are = refl;
-        fields_are = sym (read_changes_nothing spot n (value_in m.state.fields spot) m.state.fields) };
-      spot_set = λ spot how n old m e. record { more = record { spot = spot; mode = mode_by how; value = operand how n } ∷ []; acts_are = refl;
+      read = λ spot n m. record {
+        more = record { spot = spot; mode = Read; value = n } ∷ [];
+        acts_are = refl;
+        fields_are = sym (read_changes_nothing spot n (value_in m.state.fields spot) m.state.fields);
+      };
+      spot_set = λ spot how n old m e. record {
+        more = record { spot = spot; mode = mode_by how; value = operand how n } ∷ [];
+        acts_are = refl;
         fields_are = sym (set_is_act spot how n old m.state.fields)
-          ∙ ap (λ value. by_act (record { spot = spot; mode = mode_by how; value = operand how n }) value m.state.fields) (sym e) };
+            ∙ ap (λ value. by_act (record { spot = spot; mode = mode_by how; value = operand how n }) value m.state.fields) (sym e);
+      };
       scalar_set = folded_acts;
       block = λ before m r. record { more = r.more; acts_are = r.acts_are; fields_are = r.fields_are };
-      turn = λ n m e. no_act m _ refl refl
+      turn = λ n m e. no_act m _ refl refl;
     }

@@ -1,5 +1,5 @@
 -- A loop is its test, a turn, its body, and itself again: the number that bounds it never shows, for no step raises the turns.
-use Rattle.std.proofs.Common.{◌≡◌, ℕ, zero, suc, ◌≤◌, Bool, true, false, refl, sym, ◌∙◌, arith}
+use Rattle.std.proofs.Common.{◌≡◌, ℕ, zero, suc, ◌≤◌, Bool, true, false, refl, sym, arith}
 use Rattle.std.specs.Prelude.{Result, Ok, Err}
 use Rattle.liszt_base.specs.declared.answers.Place.{Place}
 use Rattle.liszt_base.specs.declared.answers.TrapKind.TheVariants.{Spent}
@@ -52,7 +52,7 @@ module _ (place : Place) (body : Step) (bodies : Keeps HasNoMoreTurns body) wher
         → and_then test (λ b. either b this does_nothing) s ≡ and_then test (λ b. either b other does_nothing) s
     same_test this other s e =
         same_next (λ b. either b this does_nothing) (λ b. either b other does_nothing) (test s).after (test s).answer
-          (same_choice this other (test s).after e)
+        (same_choice this other (test s).after e)
 
     fewer : (s : Moment) → (test s).after.state.turns ≤ s.state.turns
     fewer s = tests.kept s
@@ -62,14 +62,14 @@ module _ (place : Place) (body : Step) (bodies : Keeps HasNoMoreTurns body) wher
     stable zero zero s h g = refl
     stable zero (suc m) s h g =
         same_test (traps Spent place) (turn_and (within m)) s
-          (sym (no_turn (within m) (test s).after.state.turns (test s).after (none_left s (test s).after (fewer s) h)))
+        (sym (no_turn (within m) (test s).after.state.turns (test s).after (none_left s (test s).after (fewer s) h)))
     stable (suc n) zero s h g =
         same_test (turn_and (within n)) (traps Spent place) s
-          (no_turn (within n) (test s).after.state.turns (test s).after (none_left s (test s).after (fewer s) g))
+        (no_turn (within n) (test s).after.state.turns (test s).after (none_left s (test s).after (fewer s) g))
     stable (suc n) (suc m) s h g =
         same_test (turn_and (within n)) (turn_and (within m)) s
-          (turn_then (within n) (within m) (test s).after.state.turns (test s).after
-            (λ u less. stable n m u (omega (arith, less, fewer s, h)) (omega (arith, less, fewer s, g))))
+        (turn_then (within n) (within m) (test s).after.state.turns (test s).after
+        (λ u less. stable n m u (omega (arith, less, fewer s, h)) (omega (arith, less, fewer s, g))))
 
     abbrev again : Step
     again = loop moment_turns (traps Spent place) test body
@@ -77,11 +77,11 @@ module _ (place : Place) (body : Step) (bodies : Keeps HasNoMoreTurns body) wher
     from_turns : (n : ℕ) (s : Moment) → s.state.turns ≡ n → within n s ≡ loop_once moment_turns (traps Spent place) test body again s
     from_turns zero s e =
         same_test (traps Spent place) (turn_and again) s
-          (sym (no_turn again (test s).after.state.turns (test s).after (none_left s (test s).after (fewer s) (omega (arith, e)))))
+        (sym (no_turn again (test s).after.state.turns (test s).after (none_left s (test s).after (fewer s) (omega (arith, e)))))
     from_turns (suc n) s e =
         same_test (turn_and (within n)) (turn_and again) s
-          (turn_then (within n) again (test s).after.state.turns (test s).after
-            (λ u less. stable n u.state.turns u (omega (arith, less, fewer s, e)) (omega arith)))
+        (turn_then (within n) again (test s).after.state.turns (test s).after
+        (λ u less. stable n u.state.turns u (omega (arith, less, fewer s, e)) (omega arith)))
 
     pub loop_is : (s : Moment) → again s ≡ loop_once moment_turns (traps Spent place) test body again s
     loop_is s = from_turns s.state.turns s refl

@@ -1,18 +1,16 @@
 -- Expressions and assignments of the worked cases. This project's own.
-use Rattle.std.specs.Prelude.{ℕ, ◌^◌, ◌-◌, false, Option, Some, None, List, [], ◌∷◌, codes, ℤ, pos, neg_ℤ, Result, Ok, Err}
+use Rattle.std.specs.Prelude.{◌^◌, ◌-◌, None, [], ℤ, pos, neg_ℤ, Result, Ok, Err}
 use Rattle.liszt_base.specs.declared.answers.Place.{Place}
 use Rattle.liszt_base.specs.declared.answers.TrapKind.{TrapKind}
-use Rattle.liszt_base.specs.declared.elements.Elem.{Elem}
-use Rattle.liszt_tree.specs.declared.tree.Level.{Level}
 use Rattle.liszt_tree.specs.declared.tree.Level.TheVariants as level
 use Rattle.liszt_tree.specs.declared.tree.Rel.TheVariants.{Same as Equal}
 use Rattle.liszt_tree.specs.declared.tree.Sign.{Sign}
 use Rattle.liszt_tree.specs.declared.tree.Sign.TheVariants as sign
-use Rattle.liszt_tree.specs.Tree.{nowhere, Expression, Number, Name, Neg, Chain, Compare, no_links, link}
+use Rattle.liszt_tree.specs.Tree.{nowhere, Expression, Number, Neg, Chain, Compare, no_links, link}
 use Rattle.mesh_topology.specs.Meshes.{one_cell}
 use Rattle.kernel_eval.specs.Outcomes.{Stop, Trapped}
-use Rattle.kernel_eval.specs.States.{State, Moment, in_main}
-use Rattle.kernel_eval.specs.Meaning.{Value, NumberValue, TruthValue, meaning}
+use Rattle.kernel_eval.specs.States.{State, in_main}
+use Rattle.kernel_eval.specs.Meaning.{Value, NumberValue, meaning}
 
 abbrev pub empty : State
 empty = record { fields = []; scalars = []; prints = []; turns = 0 }

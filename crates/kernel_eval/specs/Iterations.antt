@@ -23,7 +23,7 @@ opening c turns s id =
       elements = (c.name, Some (unflipped c.over id)) ∷ [];
       locals = [];
       acts = [];
-      folds = []
+      folds = [];
     }
 
 abbrev pub iteration : MeshLists → Comprehension → ℕ → State → ℕ → Outcome Moment Done

@@ -1,5 +1,5 @@
 -- What the laws speak of: what doing something keeps. This project's own.
-use Rattle.std.specs.Prelude.{◌≡◌, ℕ, ◌≤◌, ◌++◌, Bool, Option, Some, None, List, [], ◌∷◌, ℤ, Result, Ok, Err}
+use Rattle.std.specs.Prelude.{◌≡◌, ◌≤◌, ◌++◌, Bool, Option, Some, None, List, [], ◌∷◌, ℤ}
 use Rattle.liszt_base.specs.Reductions.{fold}
 use Rattle.liszt_base.specs.declared.accesses.Mode.{Mode}
 use Rattle.liszt_base.specs.declared.accesses.Mode.TheVariants.{Read, Write, Reduce}
@@ -34,6 +34,6 @@ pub record MakesFields (m after : Moment) : Type 0 where
 
 -- A LOOP ONCE MORE: its test, and where that is true a turn and the body, and then the loop
 abbrev pub loop_once : {S : Type 0} → Turns S → (S → Outcome S (Unit {0})) → (S → Outcome S Bool) → (S → Outcome S (Unit {0}))
-  → (S → Outcome S (Unit {0})) → S → Outcome S (Unit {0})
+    → (S → Outcome S (Unit {0})) → S → Outcome S (Unit {0})
 loop_once turns spent test body again =
     test >>= λ goes_on. either goes_on ((λ s. taking_a_turn turns spent body (turns.left s) s) >> again) does_nothing

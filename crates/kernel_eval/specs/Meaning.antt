@@ -1,17 +1,15 @@
 -- What expressions and the bodies of comprehensions mean. This project's own profile after Liszt (DeVito et al., Supercomputing
 -- 2011).
-use Rattle.std.specs.Prelude.{ℕ, ◌+◌, ◌==◌, ◌&&◌, ◌||◌, ◌^◌, not, Bool, true, false, if◌then◌else◌, Option, Some, None, List, [], ◌∷◌, map, slice_get, ℤ, pos, neg_ℤ, ◌+ℤ◌, ◌-ℤ◌, ◌*ℤ◌, int_lt, int_le, int_div, int_rem, Ok, Err}
+use Rattle.std.specs.Prelude.{ℕ, ◌==◌, ◌&&◌, ◌||◌, ◌^◌, not, Bool, false, if◌then◌else◌, Option, Some, None, List, [], ◌∷◌, slice_get, ℤ, pos, neg_ℤ, ◌+ℤ◌, ◌-ℤ◌, ◌*ℤ◌, int_lt, int_le, int_div, int_rem}
 use Rattle.std.specs.Option.{option_map, option_and_then}
 use Rattle.liszt_base.specs.MeshLists.{MeshLists}
 use Rattle.liszt_base.specs.Reductions.{fold, word, value}
-use Rattle.liszt_base.specs.declared.accesses.Mode.{Mode}
-use Rattle.liszt_base.specs.declared.accesses.Mode.TheVariants.{Read, Write, Reduce}
+use Rattle.liszt_base.specs.declared.accesses.Mode.TheVariants.{Read}
 use Rattle.liszt_base.specs.declared.accesses.Spot.{Spot}
 use Rattle.liszt_base.specs.declared.answers.Place.{Place}
 use Rattle.liszt_base.specs.declared.answers.TrapKind.{TrapKind}
 use Rattle.liszt_base.specs.declared.answers.TrapKind.TheVariants.{Overflow, ZeroDivide, NilElement, Spent}
 use Rattle.liszt_base.specs.declared.elements.Elem.{Elem}
-use Rattle.liszt_base.specs.declared.elements.Op.{Op}
 use Rattle.liszt_base.specs.declared.elements.Op.TheVariants.{Add}
 use Rattle.liszt_tree.specs.declared.tree.Fun.{Fun}
 use Rattle.liszt_tree.specs.declared.tree.Fun.TheVariants.{Head, Tail, Inside, Outside, Flip, Valid, Id}
@@ -24,10 +22,10 @@ use Rattle.liszt_tree.specs.declared.tree.Sign.TheVariants.{Or, And, Plus, Minus
 use Rattle.liszt_tree.specs.Tree.{Expression, Number, Name, Field, Call, Towards, Neg, Not, Chain, Compare, Links, no_links, link}
 use Rattle.liszt_tree.specs.Tree.{Statement, Var, Val, Assign, If, While, For, Body, no_statement, statement}
 use Rattle.topo_operators.specs.Operators.{head, tail, inside, outside, flip, towards, same, valid, members}
-use Rattle.phase_types.specs.Names.{Names, Named, FieldName, ScalarName, LocalName, ElementName, named, is_built_in}
+use Rattle.phase_types.specs.Names.{Names, Named, FieldName, ScalarName, named, is_built_in}
 use Rattle.phase_types.specs.Walk.{mode_by}
-use Rattle.kernel_eval.specs.Outcomes.{Stop, Trapped, NoMeaning, Outcome, Doing, Done, gives, stops, changes, does_nothing, ◌>>=◌, ◌>>◌, either, each, Turns, loop}
-use Rattle.kernel_eval.specs.States.{State, value_in, with_value, with_fields, scalar_value, with_scalar_value, Act, ScalarFold, Moment, element_named, local_named, with_element, with_local, with_local_value, with_act, with_fold, with_state, out_of_block}
+use Rattle.kernel_eval.specs.Outcomes.{Trapped, NoMeaning, Outcome, Doing, Done, gives, stops, changes, does_nothing, ◌>>=◌, ◌>>◌, either, each, Turns, loop}
+use Rattle.kernel_eval.specs.States.{State, value_in, with_value, with_fields, scalar_value, with_scalar_value, Moment, element_named, local_named, with_element, with_local, with_local_value, with_act, with_fold, with_state, out_of_block}
 
 -- VALUES: a number, a truth value, an element or nil
 pub data Value : Type 0 where

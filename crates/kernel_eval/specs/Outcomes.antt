@@ -71,8 +71,8 @@ abbrev pub loop_within : {S : Type 0} → Turns S → (S → Outcome S (Unit {0}
 loop_within turns spent test body zero = test >>= λ goes_on. either goes_on spent does_nothing
 loop_within turns spent test body (suc n) =
     test >>= λ goes_on. either goes_on
-      ((λ s. taking_a_turn turns spent body (turns.left s) s) >> loop_within turns spent test body n)
-      does_nothing
+    ((λ s. taking_a_turn turns spent body (turns.left s) s) >> loop_within turns spent test body n)
+    does_nothing
 
 abbrev pub loop : {S : Type 0} → Turns S → (S → Outcome S (Unit {0})) → (S → Outcome S Bool) → (S → Outcome S (Unit {0})) → S → Outcome S (Unit {0})
 loop turns spent test body s = loop_within turns spent test body (turns.left s) s

@@ -1,5 +1,5 @@
 -- The state of a program, and where a run stands inside it. This project's own.
-use Rattle.std.specs.Prelude.{ℕ, ◌-◌, ◌==◌, ◌&&◌, Bool, if◌then◌else◌, Option, Some, None, List, [], ◌∷◌, ◌++◌, length, map, drop, slice_get, ℤ}
+use Rattle.std.specs.Prelude.{ℕ, ◌-◌, ◌==◌, Bool, if◌then◌else◌, Option, None, List, [], ◌∷◌, ◌++◌, length, map, drop, slice_get, ℤ}
 use Rattle.std.specs.List.{slice_set}
 use Rattle.std.specs.Option.{option_and_then}
 use Rattle.std.specs.Str.{bytes_eq}
@@ -97,5 +97,5 @@ abbrev pub out_of_block : Moment → Moment → Moment
 out_of_block before m =
     record m {
       elements = drop (length m.elements - length before.elements) m.elements;
-      locals = drop (length m.locals - length before.locals) m.locals
+      locals = drop (length m.locals - length before.locals) m.locals;
     }

@@ -28,7 +28,7 @@ pub fn loops_go_on()
     ensures { (mesh : MeshLists) (names : Names) (place : Place) (test : Expression) (body : Body) (m : Moment)
         → statement_meaning mesh names (While place test body) m
         ≡ loop_once moment_turns (traps Spent place) (truth_in mesh names test) (in_block (body_meaning mesh names body))
-            (statement_meaning mesh names (While place test body)) m }
+        (statement_meaning mesh names (While place test body)) m }
 {}
 
 /// Nothing happens behind a statement that stops: what stands at its stop, with its acts so far, is what the body leaves.

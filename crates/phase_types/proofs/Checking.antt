@@ -1,16 +1,16 @@
 -- The walk finds no fault exactly in typed programs.
-use Rattle.std.proofs.Common.{◌≡◌, ℕ, Bool, true, false, not, List, [], ◌∷◌, ◌++◌, refl, sym, ap, subst, ◌∙◌}
-use Rattle.std.specs.List.{AllByRecursion, find, filter_map}
+use Rattle.std.proofs.Common.{◌≡◌, ℕ, List, [], ◌∷◌, ◌++◌, refl, sym, subst}
+use Rattle.std.specs.List.{AllByRecursion, find}
 use Rattle.std.specs.Option.{option_and_then}
 use Rattle.std.specs.Prelude.{Option, Some, None, is_some}
 use Rattle.liszt_base.specs.declared.answers.Place.{Place}
 use Rattle.liszt_base.specs.declared.answers.ProgramFault.{ProgramFault}
 use Rattle.liszt_tree.specs.declared.tree.How.{How}
-use Rattle.liszt_tree.specs.Tree.{Expression, Body, MainItem, MainField, MainVar, MainAssign, MainIf, MainWhile, MainFor, Print, Main, no_item, item}
+use Rattle.liszt_tree.specs.Tree.{Expression, MainItem, MainField, MainVar, MainAssign, MainIf, MainWhile, MainFor, Print, Main, no_item, item}
 use Rattle.phase_types.specs.Names.{Named, FieldName, ScalarName, LocalName, ElementName, named, Here, start, behind_item, comprehension_at, into_block, out_of_block, behind_main, Comprehension}
-use Rattle.phase_types.specs.Types.{NumberType, TruthType, HasType}
-use Rattle.phase_types.specs.Typed.{IsNew, ComprehensionFits, ItemFits, FitsMainField, FitsMainVar, FitsMainAssign, FitsMainIf, FitsMainWhile, FitsMainFor, FitsPrint, MainFits, FitsNoItem, FitsItems, IsTyped}
-use Rattle.phase_types.specs.Walk.{Step, Test, Accesses, access_of, typed_steps, new_name, steps_in, found_behind, found_in_main, assigned_scalar, found_in_item, found_in_items, check_fault}
+use Rattle.phase_types.specs.Types.{NumberType, TruthType}
+use Rattle.phase_types.specs.Typed.{ComprehensionFits, ItemFits, FitsMainField, FitsMainVar, FitsMainAssign, FitsMainIf, FitsMainWhile, FitsMainFor, FitsPrint, MainFits, FitsNoItem, FitsItems, IsTyped}
+use Rattle.phase_types.specs.Walk.{Step, Test, Accesses, typed_steps, new_name, steps_in, found_behind, found_in_main, assigned_scalar, found_in_item, found_in_items, check_fault}
 use Rattle.phase_types.proofs.Phases.{IsNone, steps_find_nothing, nothing_in_steps}
 use Rattle.phase_types.proofs.Walking.{all_of_both, all_of_first, all_of_second, Passes, AllPass, typed_pass, pass_typed, new_pass, pass_new, body_passes, passed_body, failed, then, first_of_both, second_of_both}
 
@@ -70,35 +70,35 @@ mutual
   item_fits here (MainField place name at kind init) h =
       let steps = passed_main (typed_steps here.names NumberType init ++ new_name here.names name at) h in
       FitsMainField place name at kind (pass_typed here.names NumberType init (first_of_both _ (new_name here.names name at) steps))
-        (pass_new here.names name at (second_of_both (typed_steps here.names NumberType init) _ steps))
+      (pass_new here.names name at (second_of_both (typed_steps here.names NumberType init) _ steps))
   item_fits here (MainVar place name at init) h =
       let steps = passed_main (typed_steps here.names NumberType init ++ new_name here.names name at) h in
       FitsMainVar place name at (pass_typed here.names NumberType init (first_of_both _ (new_name here.names name at) steps))
-        (pass_new here.names name at (second_of_both (typed_steps here.names NumberType init) _ steps))
+      (pass_new here.names name at (second_of_both (typed_steps here.names NumberType init) _ steps))
   item_fits here (MainAssign place name how set_to) h =
       assigned_passed here place name how set_to (named here.names name) refl (passed_main (assigned_scalar place (named here.names name) (typed_steps here.names NumberType set_to)) h)
   item_fits here (MainIf place test first second has_else) h =
       let behind_first : Here = into_block (out_of_block here (behind_main (into_block here) first)) in
       let front = all_of_first _ (found_in_main (typed_steps here.names TruthType test) ++ found_in_items (into_block here) first) (found_in_items behind_first second) h in
       FitsMainIf place has_else
-        (pass_typed here.names TruthType test (passed_main (typed_steps here.names TruthType test) (all_of_first _ (found_in_main (typed_steps here.names TruthType test)) (found_in_items (into_block here) first) front)))
-        (main_fits (into_block here) first (all_of_second _ (found_in_main (typed_steps here.names TruthType test)) (found_in_items (into_block here) first) front))
-        (main_fits behind_first second (all_of_second _ (found_in_main (typed_steps here.names TruthType test) ++ found_in_items (into_block here) first) (found_in_items behind_first second) h))
+      (pass_typed here.names TruthType test (passed_main (typed_steps here.names TruthType test) (all_of_first _ (found_in_main (typed_steps here.names TruthType test)) (found_in_items (into_block here) first) front)))
+      (main_fits (into_block here) first (all_of_second _ (found_in_main (typed_steps here.names TruthType test)) (found_in_items (into_block here) first) front))
+      (main_fits behind_first second (all_of_second _ (found_in_main (typed_steps here.names TruthType test) ++ found_in_items (into_block here) first) (found_in_items behind_first second) h))
   item_fits here (MainWhile place test body) h =
       FitsMainWhile place
-        (pass_typed here.names TruthType test (passed_main (typed_steps here.names TruthType test) (all_of_first _ (found_in_main (typed_steps here.names TruthType test)) (found_in_items (into_block here) body) h)))
-        (main_fits (into_block here) body (all_of_second _ (found_in_main (typed_steps here.names TruthType test)) (found_in_items (into_block here) body) h))
+      (pass_typed here.names TruthType test (passed_main (typed_steps here.names TruthType test) (all_of_first _ (found_in_main (typed_steps here.names TruthType test)) (found_in_items (into_block here) body) h)))
+      (main_fits (into_block here) body (all_of_second _ (found_in_main (typed_steps here.names TruthType test)) (found_in_items (into_block here) body) h))
   item_fits here (MainFor place name at over body) h =
       FitsMainFor place name at over
-        (pass_new here.names name at (passed_main (new_name here.names name at) (all_of_first _ (found_in_main (new_name here.names name at)) (found_behind [] (steps_in (comprehension_at here name over body))) h)))
-        (comprehension_fits (comprehension_at here name over body) (all_of_second _ (found_in_main (new_name here.names name at)) (found_behind [] (steps_in (comprehension_at here name over body))) h))
+      (pass_new here.names name at (passed_main (new_name here.names name at) (all_of_first _ (found_in_main (new_name here.names name at)) (found_behind [] (steps_in (comprehension_at here name over body))) h)))
+      (comprehension_fits (comprehension_at here name over body) (all_of_second _ (found_in_main (new_name here.names name at)) (found_behind [] (steps_in (comprehension_at here name over body))) h))
   item_fits here (Print place value) h = FitsPrint place (pass_typed here.names NumberType value (passed_main (typed_steps here.names NumberType value) h))
 
   main_fits : (here : Here) (program : Main) → AllByRecursion IsNone (found_in_items here program) → MainFits here program
   main_fits here no_item h = FitsNoItem here
   main_fits here (item i more) h =
       FitsItems (item_fits here i (all_of_first _ (found_in_item here i) (found_in_items (behind_item here i) more) h))
-        (main_fits (behind_item here i) more (all_of_second _ (found_in_item here i) (found_in_items (behind_item here i) more) h))
+      (main_fits (behind_item here i) more (all_of_second _ (found_in_item here i) (found_in_items (behind_item here i) more) h))
 
 -- THE FIRST of them
 all_none : (found : List (Option ProgramFault)) → option_and_then (λ fault. fault) (find is_some found) ≡ None → AllByRecursion IsNone found

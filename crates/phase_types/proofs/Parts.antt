@@ -1,9 +1,9 @@
 -- Parts are numbered by what stands before them, and stay where they are.
-use Rattle.std.proofs.Common.{◌≡◌, ℕ, zero, suc, Bool, true, false, List, [], ◌∷◌, ◌++◌, length, refl, sym, ap, ◌∙◌}
+use Rattle.std.proofs.Common.{◌≡◌, Bool, true, false, List, [], ◌∷◌, ◌++◌, length, refl, sym, ap, ◌∙◌}
 use Rattle.std.proofs.lemmas.List.{append-nil, append_assoc}
 use Rattle.std.proofs.lemmas.List.Elements.{filter_map-append}
 use Rattle.std.specs.List.{cons_option, filter_map}
-use Rattle.std.specs.Prelude.{Option, Some, None, slice_get, if◌then◌else◌}
+use Rattle.std.specs.Prelude.{Option, Some, slice_get, if◌then◌else◌}
 use Rattle.liszt_tree.specs.Tree.{MainItem, MainField, MainVar, MainAssign, MainIf, MainWhile, MainFor, Print, Main, no_item, item}
 use Rattle.phase_types.specs.Names.{Part, Here, GoesOn, into_block, out_of_block, is_block, behind_item, behind_main}
 
@@ -30,7 +30,7 @@ mutual
       let behind_first : Here = out_of_block here (behind_main (into_block here) first) in
       let first_part : GoesOn here.before behind_first.before = further (one_more here.before _) (main_goes_on (into_block here) first) in
       either_way (is_block second has_else) here.before (out_of_block here (behind_main (into_block behind_first) second)) behind_first
-        (further first_part (further (one_more behind_first.before _) (main_goes_on (into_block behind_first) second))) first_part
+      (further first_part (further (one_more behind_first.before _) (main_goes_on (into_block behind_first) second))) first_part
   item_goes_on here (MainWhile place test body) = further (one_more here.before _) (main_goes_on (into_block here) body)
   item_goes_on here (MainFor place name at over body) = one_more here.before _
   item_goes_on here (Print place value) = no_more here.before
@@ -48,5 +48,5 @@ pub stands_at : {A : Type 0} (sort : Part → Option A) (before more : List Part
     → slice_get (filter_map sort (before ++ part ∷ more)) (length (filter_map sort before)) ≡ Some x
 stands_at sort before more part x e =
     ap (λ sorted. slice_get sorted (length (filter_map sort before)))
-      (filter_map-append sort before (part ∷ more) ∙ ap (λ found. filter_map sort before ++ cons_option found (filter_map sort more)) e)
+    (filter_map-append sort before (part ∷ more) ∙ ap (λ found. filter_map sort before ++ cons_option found (filter_map sort more)) e)
     ∙ at_length (filter_map sort before) x (filter_map sort more)

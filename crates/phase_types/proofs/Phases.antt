@@ -1,11 +1,10 @@
 -- The accesses of a comprehension find no conflict exactly where they have one mode.
-use Rattle.std.proofs.Common.{◌≡◌, ℕ, ◌==◌, Bool, true, false, not, cond, List, [], ◌∷◌, ◌++◌, refl, sym, ap, subst, ◌∙◌, eqb-true, eq-eqb}
+use Rattle.std.proofs.Common.{◌≡◌, Bool, true, false, not, cond, List, [], ◌∷◌, ◌++◌, refl, sym, ap, subst, ◌∙◌, eqb-true, eq-eqb}
 use Rattle.std.specs.List.{AllByRecursion, filter, filter_map, list_any}
 use Rattle.std.specs.Option.{option_map}
 use Rattle.std.specs.Prelude.{Option, Some, None, ◌||◌}
 use Rattle.liszt_base.specs.declared.accesses.Mode.{Mode}
 use Rattle.liszt_base.specs.declared.accesses.Mode.TheVariants.{Read, Write, Reduce}
-use Rattle.liszt_base.specs.declared.answers.Place.{Place}
 use Rattle.liszt_base.specs.declared.answers.ProgramFault.{ProgramFault}
 use Rattle.liszt_base.specs.declared.elements.Op.{Op}
 use Rattle.liszt_base.specs.declared.elements.Op.TheVariants.{Add, Mul, And, Or, Xor, Min, Max}
@@ -65,7 +64,6 @@ none_of_both false true e = absurd cc
 both_false : (a b : Bool) → a ≡ false → b ≡ false → (a || b) ≡ false
 both_false a b e f = ap (λ a. a || b) e ∙ f
 
-
 abbrev differs : AccessAt → AccessAt → Bool
 differs access earlier = not (is_mode access.mode earlier.mode)
 
@@ -96,6 +94,7 @@ all_agree access [] e = tt
 all_agree access (other ∷ more) e = go (is_same access other) refl (all_agree access more) e where
   rest : List AccessAt
   rest = filter (is_same access) more
+
   go : (b : Bool) → is_same access other ≡ b → (list_any (differs access) rest ≡ false → AllByRecursion (λ other. AgreesWith other access) more)
       → list_any (differs access) (cond b (other ∷ rest) rest) ≡ false → AgreesWith other access × AllByRecursion (λ other. AgreesWith other access) more
   go true is again e =
@@ -109,10 +108,11 @@ none_differs access [] h = refl
 none_differs access (other ∷ more) h = go (is_same access other) refl (none_differs access more h.1) where
   rest : List AccessAt
   rest = filter (is_same access) more
+
   go : (b : Bool) → is_same access other ≡ b → list_any (differs access) rest ≡ false → list_any (differs access) (cond b (other ∷ rest) rest) ≡ false
   go true is again =
       both_false (differs access other) (list_any (differs access) rest)
-        (ap (λ mode. not (is_mode access.mode mode)) (h.0 (turned access.subject other.subject is)) ∙ ap not (same_mode access.mode)) again
+      (ap (λ mode. not (is_mode access.mode mode)) (h.0 (turned access.subject other.subject is)) ∙ ap not (same_mode access.mode)) again
   go false is again = again
 
 unmapped : {A B : Type 0} (f : A → B) (found : Option A) → option_map f found ≡ None → found ≡ None
@@ -152,9 +152,10 @@ taken_first access accesses (other ∷ more) h = let rest = taken_first access a
 one_mode : (accesses earlier : List AccessAt) → NoConflicts earlier accesses → AllAgree earlier accesses × HaveOneMode accesses
 one_mode [] earlier h = (nothing_to_agree earlier, tt)
 one_mode (access ∷ more) earlier h =
-    let rest = one_mode more (earlier ++ access ∷ []) h.1 in
-    (put_first access more earlier (no_conflict_agrees earlier access h.0) (all_of_first _ earlier (access ∷ []) rest.0),
-     ((all_of_second _ earlier (access ∷ []) rest.0).0, rest.1))
+    let rest = one_mode more (earlier ++ access ∷ []) h.1 in (
+      put_first access more earlier (no_conflict_agrees earlier access h.0) (all_of_first _ earlier (access ∷ []) rest.0),
+      ((all_of_second _ earlier (access ∷ []) rest.0).0, rest.1),
+    )
 
 no_conflicts : (accesses earlier : List AccessAt) → AllAgree earlier accesses → HaveOneMode accesses → NoConflicts earlier accesses
 no_conflicts [] earlier h g = tt
@@ -165,7 +166,6 @@ no_conflicts (access ∷ more) earlier h g =
 -- WHAT THE STEPS FIND: nothing where all tests pass and no access is in conflict
 abbrev pub IsNone : Option ProgramFault → Type 0
 IsNone fault = fault ≡ None
-
 
 nothing_found : (steps : List Step) (earlier : List AccessAt) → AllByRecursion Passes steps → NoConflicts earlier (filter_map access_of steps)
     → AllByRecursion IsNone (found_behind earlier steps)

@@ -12,7 +12,7 @@ use Rattle.liszt_tree.specs.declared.tree.Rel.{Rel}
 use Rattle.liszt_tree.specs.declared.tree.Sign.{Sign}
 use Rattle.liszt_tree.specs.Tree.{Expression, Number, Name, Field, Call, Towards, Neg, Not, Chain, Compare, Links, no_links, link}
 use Rattle.phase_types.specs.Names.{Names, Named, FieldName, ScalarName, LocalName, ElementName, named}
-use Rattle.phase_types.specs.Types.{ValueType, NumberType, TruthType, ElementType, is_type, call_type, can_point, operand_type, is_sameness, HasType, IsNumber, IsScalar, IsLocal, IsElement, IsField, IsCall, IsTowards, IsNeg, IsNot, IsChain, AreNumbers, AreElements, FollowsType, NoMore, OneMore, only_of, name_type, field_type, called_type, towards_type, operator_type, comparison_type, type_of, type_behind}
+use Rattle.phase_types.specs.Types.{ValueType, NumberType, TruthType, ElementType, is_type, can_point, operand_type, is_sameness, HasType, IsNumber, IsScalar, IsLocal, IsElement, IsField, IsCall, IsTowards, IsNeg, IsNot, IsChain, AreNumbers, AreElements, FollowsType, NoMore, OneMore, only_of, name_type, field_type, called_type, towards_type, operator_type, comparison_type, type_of, type_behind}
 
 pub same_kind : (kind : Kind) → is_kind kind kind ≡ true
 same_kind Vertex = refl
@@ -162,7 +162,7 @@ compare_typed names place rel left right (Some (ElementType kind)) (Some (Elemen
     let both = some_is (is_sameness rel && is_kind kind other) TruthType type e in
     let parts = and_parts (is_sameness rel) (is_kind kind other) both.0 in
     subst (λ type. HasType names (Compare place rel left right) type) both.1
-      (AreElements place rel (h (ElementType kind) is) (g (ElementType kind) (are ∙ ap (λ k. Some (ElementType k)) (sym (kinds_are kind other parts.1)))) parts.0)
+    (AreElements place rel (h (ElementType kind) is) (g (ElementType kind) (are ∙ ap (λ k. Some (ElementType k)) (sym (kinds_are kind other parts.1)))) parts.0)
 compare_typed names place rel left right _ _ type is are h g e = absurd cc
 
 mutual

@@ -5,7 +5,6 @@ use Rattle.std.specs.Prelude.{Option, Some, None, is_some}
 use Rattle.liszt_base.specs.Kinds.{has_set, kind_of}
 use Rattle.liszt_base.specs.declared.accesses.Mode.{Mode}
 use Rattle.liszt_base.specs.declared.answers.Place.{Place}
-use Rattle.liszt_base.specs.declared.answers.ProgramFault.{ProgramFault}
 use Rattle.liszt_base.specs.declared.answers.ProgramWhat.{ProgramWhat}
 use Rattle.liszt_base.specs.declared.elements.Kind.{Kind}
 use Rattle.liszt_base.specs.declared.elements.SetName.{SetName}
@@ -84,7 +83,7 @@ field_passes : (names : Names) (place : Place) (arg : Expression) (global : Opti
     → type_of names arg ≡ Some (ElementType kind) → AllPass (steps_of names arg) → AllPass (field_steps place global (type_of names arg) (steps_of names arg))
 field_passes names place arg global {kind = kind} is e h =
     subst (λ global. AllPass (field_steps place global (type_of names arg) (steps_of names arg))) (sym is)
-      (then (then h (needs_pass _ place (has_its_type (ElementType kind) e))) use_passes)
+    (then (then h (needs_pass _ place (has_its_type (ElementType kind) e))) use_passes)
 
 mutual
   pub passes : {names : Names} {e : Expression} {type : ValueType} → HasType names e type → AllPass (steps_of names e)
@@ -106,7 +105,7 @@ mutual
   passes_behind (NoMore type) = none_pass
   passes_behind {names = names} (OneMore {type = type} {arg = arg} {more = links} sign place is h more) =
       then (then (passes h) (fits_pass _ place (operator_fits sign type (type_of names arg) is (computed h))))
-        (subst (λ type. AllPass (steps_behind names type links)) (sym (operator_fits sign type (type_of names arg) is (computed h))) (passes_behind more))
+      (subst (λ type. AllPass (steps_behind names type links)) (sym (operator_fits sign type (type_of names arg) is (computed h))) (passes_behind more))
 
 -- EXPRESSIONS that pass have a type
 name_passed : (place : Place) (global : Option Named) → AllPass (name_steps place global) → (type : ValueType) × (Rattle.phase_types.specs.Types.name_type global ≡ Some type)
@@ -120,7 +119,7 @@ field_passed : (names : Names) (place : Place) (arg : Expression) (global : Opti
     → AllPass (field_steps place global (type_of names arg) (steps_of names arg)) → (type : ValueType) × (field_type global (type_of names arg) ≡ Some type)
 field_passed names place arg (Some (FieldName number kind)) h =
     let had : type_of names arg ≡ Some (ElementType kind) = type_had _ _ (needed (has_type (ElementType kind) (type_of names arg)) _ place
-      (second_of_both (steps_of names arg) _ (first_of_both _ (uses _ _ place) h))) in
+    (second_of_both (steps_of names arg) _ (first_of_both _ (uses _ _ place) h))) in
     (NumberType, ap (field_type (Some (FieldName number kind))) had ∙ field_is kind)
   where
     field_is : (kind : Kind) → field_type (Some (FieldName number kind)) (Some (ElementType kind)) ≡ Some NumberType
@@ -149,10 +148,10 @@ mutual
   passed_behind names no_links type found e h = (found, e)
   passed_behind names (link sign place arg more) type found e h =
       let front = first_of_both (steps_of names arg ++ fits (operator_type sign type (type_of names arg)) place)
-        (steps_behind names (operator_type sign type (type_of names arg)) more) h in
+      (steps_behind names (operator_type sign type (type_of names arg)) more) h in
       let one = fitting (operator_type sign type (type_of names arg)) place (second_of_both (steps_of names arg) _ front) in
       passed_behind names more (operator_type sign type (type_of names arg)) one.0 one.1
-        (second_of_both (steps_of names arg ++ fits (operator_type sign type (type_of names arg)) place) _ h)
+      (second_of_both (steps_of names arg ++ fits (operator_type sign type (type_of names arg)) place) _ h)
 
 -- what has to be a number or a truth value, and a new name
 pub typed_pass : {names : Names} {e : Expression} {type : ValueType} → HasType names e type → AllPass (typed_steps names type e)
@@ -214,11 +213,11 @@ mutual
       then (then (passes h) (val_passes _ (place_of init) (computed h))) (new_pass names name at is)
   statement_passes {names = names} (FitsField {kind = kind} {target = target} {set_to = set_to} place name how is free h g) =
       subst (λ global. AllPass (target_steps place how global (type_of names target) (steps_of names target) (typed_steps names NumberType set_to))) (sym is)
-        (then (then (then (then (needs_pass _ place (ap not free)) (passes h)) (needs_pass _ place (has_its_type (ElementType kind) (computed h)))) use_passes)
-          (typed_pass g))
+      (then (then (then (then (needs_pass _ place (ap not free)) (passes h)) (needs_pass _ place (has_its_type (ElementType kind) (computed h)))) use_passes)
+      (typed_pass g))
   statement_passes {names = names} (FitsScalar {number = number} {set_to = set_to} place name how is r h) =
       subst (λ global. AllPass (plain_steps place how global (typed_steps names NumberType set_to))) (sym is)
-        (then (reduction_passes place how number r) (typed_pass h))
+      (then (reduction_passes place how number r) (typed_pass h))
   statement_passes {names = names} (FitsLocal {set_to = set_to} place name how is h) =
       subst (λ global. AllPass (plain_steps place how global (typed_steps names NumberType set_to))) (sym is) (typed_pass h)
   statement_passes (FitsIf place has_else h f g) = then (then (typed_pass h) (body_passes f)) (body_passes g)
@@ -240,7 +239,7 @@ target_passed names place name how target set_to (Some (FieldName number kind)) 
     let free = needed (not (is_built_in number)) _ place (first_of_both _ (steps_of names target) (first_of_both _ (needs _ _ place) upto)) in
     let had = type_had (ElementType kind) _ (needed (has_type (ElementType kind) (type_of names target)) _ place (second_of_both _ (needs _ _ place) upto)) in
     FitsField place name how is (Rattle.std.proofs.lemmas.Bool.not-true (is_built_in number) free) (typed names target (ElementType kind) had)
-      (pass_typed names NumberType set_to (second_of_both _ (typed_steps names NumberType set_to) h))
+    (pass_typed names NumberType set_to (second_of_both _ (typed_steps names NumberType set_to) h))
 target_passed names place name how target set_to (Some (ScalarName number)) is h = failed _ place h
 target_passed names place name how target set_to (Some LocalName) is h = failed _ place h
 target_passed names place name how target set_to (Some (ElementName kind)) is h = failed _ place h
@@ -250,7 +249,7 @@ plain_passed : (names : Names) (place : Place) (name : List ℕ) (how : How) (se
     → AllPass (plain_steps place how global (typed_steps names NumberType set_to)) → StatementFits names (Assign place name None how set_to) names
 plain_passed names place name how set_to (Some (ScalarName number)) is h =
     FitsScalar place name how is (passed_reduction place how number (first_of_both (scalar_steps place how number) _ h))
-      (pass_typed names NumberType set_to (second_of_both (scalar_steps place how number) _ h))
+    (pass_typed names NumberType set_to (second_of_both (scalar_steps place how number) _ h))
 plain_passed names place name how set_to (Some LocalName) is h = FitsLocal place name how is (pass_typed names NumberType set_to h)
 plain_passed names place name how set_to (Some (FieldName number kind)) is h = failed _ place h
 plain_passed names place name how set_to (Some (ElementName kind)) is h = failed _ place h
@@ -260,39 +259,39 @@ val_passed : (names : Names) (place : Place) (name : List ℕ) (at : Place) (ini
     → IsNew names name → StatementFits names (Val place name at init) (names_behind names (Val place name at init))
 val_passed names place name at init kind e is =
     subst (λ found. StatementFits names (Val place name at init) (with_val name found names)) (sym e)
-      (FitsVal place name at (typed names init (ElementType kind) e) is)
+    (FitsVal place name at (typed names init (ElementType kind) e) is)
 
 mutual
   pub passed_statement : (names : Names) (s : Statement) → AllPass (statement_steps names s) → StatementFits names s (names_behind names s)
   passed_statement names (Var place name at init) h =
       FitsVar place name at (pass_typed names NumberType init (first_of_both (typed_steps names NumberType init) (new_name names name at) h))
-        (pass_new names name at (second_of_both (typed_steps names NumberType init) (new_name names name at) h))
+      (pass_new names name at (second_of_both (typed_steps names NumberType init) (new_name names name at) h))
   passed_statement names (Val place name at init) h =
       let front = first_of_both (steps_of names init ++ val_steps (type_of names init) (place_of init)) (new_name names name at) h in
       let kind = element_passed (type_of names init) (place_of init) (second_of_both (steps_of names init) _ front) in
       val_passed names place name at init kind.0 kind.1
-        (pass_new names name at (second_of_both (steps_of names init ++ val_steps (type_of names init) (place_of init)) _ h))
+      (pass_new names name at (second_of_both (steps_of names init ++ val_steps (type_of names init) (place_of init)) _ h))
   passed_statement names (Assign place name (Some target) how set_to) h = target_passed names place name how target set_to (named names name) refl h
   passed_statement names (Assign place name None how set_to) h = plain_passed names place name how set_to (named names name) refl h
   passed_statement names (If place test first second has_else) h =
       let front = first_of_both (typed_steps names TruthType test ++ body_steps names first) (body_steps names second) h in
       FitsIf place has_else (pass_typed names TruthType test (first_of_both (typed_steps names TruthType test) (body_steps names first) front))
-        (passed_body names first (second_of_both (typed_steps names TruthType test) (body_steps names first) front))
-        (passed_body names second (second_of_both (typed_steps names TruthType test ++ body_steps names first) (body_steps names second) h))
+      (passed_body names first (second_of_both (typed_steps names TruthType test) (body_steps names first) front))
+      (passed_body names second (second_of_both (typed_steps names TruthType test ++ body_steps names first) (body_steps names second) h))
   passed_statement names (While place test body) h =
       FitsWhile place (pass_typed names TruthType test (first_of_both (typed_steps names TruthType test) (body_steps names body) h))
-        (passed_body names body (second_of_both (typed_steps names TruthType test) (body_steps names body) h))
+      (passed_body names body (second_of_both (typed_steps names TruthType test) (body_steps names body) h))
   passed_statement names (For place name at set set_at arg body) h =
       let inner : Names = (name, ElementName (kind_of set)) ∷ names in
       let front = first_of_both ((steps_of names arg ++ needs (has_members set (type_of names arg)) _ set_at) ++ new_name names name at) (body_steps inner body) h in
       let early = first_of_both (steps_of names arg ++ needs (has_members set (type_of names arg)) _ set_at) (new_name names name at) front in
       let had = members_had set (type_of names arg) (needed _ _ set_at (second_of_both (steps_of names arg) _ early)) in
       FitsFor place name at set set_at (typed names arg (ElementType had.0) had.1) had.2
-        (pass_new names name at (second_of_both (steps_of names arg ++ needs (has_members set (type_of names arg)) _ set_at) (new_name names name at) front))
-        (passed_body inner body (second_of_both ((steps_of names arg ++ needs (has_members set (type_of names arg)) _ set_at) ++ new_name names name at) (body_steps inner body) h))
+      (pass_new names name at (second_of_both (steps_of names arg ++ needs (has_members set (type_of names arg)) _ set_at) (new_name names name at) front))
+      (passed_body inner body (second_of_both ((steps_of names arg ++ needs (has_members set (type_of names arg)) _ set_at) ++ new_name names name at) (body_steps inner body) h))
 
   pub passed_body : (names : Names) (body : Body) → AllPass (body_steps names body) → BodyFits names body
   passed_body names no_statement h = FitsNothing names
   passed_body names (statement s more) h =
       FitsThen (passed_statement names s (first_of_both (statement_steps names s) (body_steps (names_behind names s) more) h))
-        (passed_body (names_behind names s) more (second_of_both (statement_steps names s) (body_steps (names_behind names s) more) h))
+      (passed_body (names_behind names s) more (second_of_both (statement_steps names s) (body_steps (names_behind names s) more) h))

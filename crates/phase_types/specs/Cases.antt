@@ -1,5 +1,5 @@
 -- Programs of the worked cases, with the places of their texts where a fault may stand. This project's own.
-use Rattle.std.specs.Prelude.{◌≡◌, ℕ, true, false, Option, Some, None, List, [], ◌∷◌, codes, pos}
+use Rattle.std.specs.Prelude.{ℕ, true, false, Option, Some, None, List, [], ◌∷◌, codes}
 use Rattle.liszt_base.specs.declared.answers.Place.{Place}
 use Rattle.liszt_base.specs.declared.answers.ProgramFault.{ProgramFault}
 use Rattle.liszt_base.specs.declared.answers.ProgramWhat.{ProgramWhat}
@@ -8,14 +8,15 @@ use Rattle.liszt_base.specs.declared.elements.Kind.{Kind}
 use Rattle.liszt_base.specs.declared.elements.Kind.TheVariants.{Vertex, Edge, Face, Cell}
 use Rattle.liszt_base.specs.declared.elements.Op.TheVariants.{Add, Mul}
 use Rattle.liszt_base.specs.declared.elements.SetName.TheVariants.{Vertices, Edges}
-use Rattle.liszt_tree.specs.declared.tree.Fun.TheVariants.{Head}
+use Rattle.liszt_tree.specs.declared.tree.Fun.TheVariants.{Head, Flip}
+use Rattle.liszt_tree.specs.declared.tree.How.{How}
 use Rattle.liszt_tree.specs.declared.tree.How.TheVariants.{Set, Fold, Less}
 use Rattle.liszt_tree.specs.declared.tree.Level.TheVariants as level
 use Rattle.liszt_tree.specs.declared.tree.Rel.TheVariants.{Same as Equal, Below}
 use Rattle.liszt_tree.specs.declared.tree.Sign.TheVariants as sign
-use Rattle.liszt_tree.specs.Tree.{nowhere, Expression, Number, Name, Field, Call, Chain, Compare, no_links, link}
-use Rattle.liszt_tree.specs.Tree.{Statement, Var, Val, Assign, While, For, Body, no_statement, statement}
-use Rattle.liszt_tree.specs.Tree.{MainItem, MainField, MainVar, MainAssign, MainIf, MainWhile, MainFor, Print, Main, no_item, item}
+use Rattle.liszt_tree.specs.Tree.{nowhere, Expression, Name, Field, Call, Chain, Compare, no_links, link}
+use Rattle.liszt_tree.specs.Tree.{Statement, Var, Val, Assign, If, While, For, Body, body_of, no_statement, statement}
+use Rattle.liszt_tree.specs.Tree.{MainItem, MainField, MainVar, MainIf, MainWhile, MainFor, Print, Main, no_item, item}
 use Rattle.liszt_tree.specs.Trees.{name, number}
 
 abbrev pub at : ℕ → ℕ → Place
@@ -129,3 +130,78 @@ blocks =
     (statement (While nowhere is_zero (one (Var nowhere (codes "y") nowhere (number 1))))
     (one (Val nowhere (codes "y") nowhere (name (codes "v")))))))))
     (only (MainField nowhere (codes "C") nowhere Cell (number 3)))))
+
+-- SHORT PROGRAMS on one line, whose places are columns
+abbrev pub in_line : ℕ → Place
+in_line col = at 1 col
+
+abbrev pub declared : List ℕ → MainItem
+declared text = MainField nowhere text nowhere Cell (number 0)
+
+abbrev pub over_elements : Kind → List Statement → Main
+over_elements kind statements = only (MainFor nowhere (codes "x") nowhere kind (body_of statements))
+
+abbrev pub x : Expression
+x = name (codes "x")
+
+abbrev pub unknown : ℕ → Expression
+unknown col = Name (in_line col) (codes "u")
+
+abbrev pub reads_field : ℕ → List ℕ → Statement
+reads_field col new = Var nowhere new nowhere (Field (in_line col) (codes "A") x)
+
+abbrev pub assigns : ℕ → List ℕ → How → Expression → Statement
+assigns col text how value = Assign (in_line col) text None how value
+
+abbrev pub assigns_at : ℕ → List ℕ → Expression → How → Expression → Statement
+assigns_at col text target how value = Assign (in_line col) text (Some target) how value
+
+-- `var p = A(x); var q = A(x); A(x) = 1`: the first access is the first read
+abbrev pub reads_then_writes : Main
+reads_then_writes =
+    item (declared (codes "A"))
+    (over_elements Cell (reads_field 1 (codes "p") ∷ reads_field 2 (codes "q") ∷ assigns_at 3 (codes "A") x Set (number 1) ∷ []))
+
+-- `m += 1; A(m) = 1`, and `m -= 1; m += 1; for (y <- edges(m)) { }`: a target and a set's argument are walked, with their accesses
+abbrev pub scalar_as_target : Main
+scalar_as_target =
+    item (MainVar nowhere (codes "m") nowhere (number 0)) (item (declared (codes "A"))
+    (over_elements Cell (assigns 3 (codes "m") (Fold Add) (number 1) ∷ assigns_at 4 (codes "A") (Name (in_line 5) (codes "m")) Set (number 1) ∷ [])))
+
+abbrev pub scalar_as_argument : Main
+scalar_as_argument =
+    item (MainVar nowhere (codes "m") nowhere (number 0))
+    (over_elements Cell
+    (assigns 3 (codes "m") Less (number 1) ∷ assigns 4 (codes "m") (Fold Add) (number 1)
+    ∷ For nowhere (codes "y") nowhere Edges (in_line 8) (Name (in_line 5) (codes "m")) no_statement ∷ []))
+
+-- `for (x <- edges(x)) { u = 1 }`, within a comprehension whose elements are x: the name before the body
+abbrev pub visits_again : Main
+visits_again = over_elements Cell (For nowhere (codes "x") (in_line 7) Edges (in_line 8) x (one (assigns 9 (codes "u") Set (number 1))) ∷ [])
+
+-- `for (PosX <- cells(mesh)) { u = 1 }`
+abbrev pub built_in_as_name : Main
+built_in_as_name = only (MainFor nowhere (codes "PosX") (in_line 7) Cell (one (assigns 9 (codes "u") Set (number 1))))
+
+-- `if (0 == 0) { var p = 1 } else { p = 1 }`
+abbrev pub name_of_other_block : Main
+name_of_other_block =
+    over_elements Cell (If nowhere is_zero (one (Var nowhere (codes "p") nowhere (number 1))) (one (assigns 2 (codes "p") Set (number 1))) true ∷ [])
+
+-- `m = u` in a body
+abbrev pub writes_scalar_unknown : Main
+writes_scalar_unknown =
+    item (MainVar nowhere (codes "m") nowhere (number 0)) (over_elements Cell (assigns 3 (codes "m") Set (unknown 4) ∷ []))
+
+-- `var PosX = b && b && b`: a chain stands at its first operator, and its type is tested before the name
+abbrev pub truth_for_built_in : Main
+truth_for_built_in =
+    only (MainVar nowhere (codes "PosX") (in_line 2) (Chain level.And is_zero (link sign.And (in_line 7) is_zero (link sign.And (in_line 8) is_zero no_links))))
+
+-- `if (x == head(x)) { }` and `val y = flip(head(x))`, over edges
+abbrev pub edge_and_vertex : Main
+edge_and_vertex =
+    over_elements Edge (If nowhere (Compare (in_line 2) Equal x (Call nowhere Head x)) no_statement no_statement false ∷ [])
+
+abbrev pub flipped_vertex : Main
+flipped_vertex = over_elements Edge (Val nowhere (codes "y") nowhere (Call (in_line 3) Flip (Call (in_line 4) Head x)) ∷ [])

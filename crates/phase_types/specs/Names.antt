@@ -1,5 +1,5 @@
 -- What the names of a program stand for, and what it declares, in the order of its text. This project's own.
-use Rattle.std.specs.Prelude.{◌≡◌, ℕ, ◌+◌, nat_lt, Bool, true, false, if◌then◌else◌, Option, Some, None, List, [], ◌∷◌, ◌++◌, length, codes, slice_get}
+use Rattle.std.specs.Prelude.{◌≡◌, ℕ, ◌+◌, nat_lt, Bool, true, if◌then◌else◌, Option, Some, None, List, [], ◌∷◌, ◌++◌, length, codes, slice_get}
 use Rattle.std.specs.List.{find, filter_map}
 use Rattle.std.specs.Option.{option_map}
 use Rattle.std.specs.Str.{bytes_eq}
@@ -107,7 +107,7 @@ with_field name kind here =
     record {
       names = (name, FieldName (next_field here) kind) ∷ here.names;
       scope = here.scope;
-      before = here.before ++ FieldPart (record { name = name; kind = kind; scope = here.scope }) ∷ []
+      before = here.before ++ FieldPart (record { name = name; kind = kind; scope = here.scope }) ∷ [];
     }
 
 abbrev pub with_scalar : List ℕ → Here → Here

@@ -1,11 +1,10 @@
 -- Which programs are typed. This project's own; that a field has one mode in a comprehension is the Liszt paper's (DeVito et al.,
 -- Supercomputing 2011).
-use Rattle.std.specs.Prelude.{◌≡◌, ℕ, Bool, true, false, Option, Some, None, List, [], ◌∷◌}
+use Rattle.std.specs.Prelude.{◌≡◌, ℕ, Bool, true, false, Some, None, List, [], ◌∷◌}
 use Rattle.std.specs.List.{AllByRecursion}
 use Rattle.liszt_base.specs.Kinds.{has_set, kind_of}
 use Rattle.liszt_base.specs.declared.answers.Place.{Place}
 use Rattle.liszt_base.specs.declared.elements.Kind.{Kind}
-use Rattle.liszt_base.specs.declared.elements.Op.{Op}
 use Rattle.liszt_base.specs.declared.elements.SetName.{SetName}
 use Rattle.liszt_tree.specs.declared.tree.How.{How}
 use Rattle.liszt_tree.specs.declared.tree.How.TheVariants.{Set, Fold, Less}
@@ -28,29 +27,29 @@ IsReduction Less = Unit {0}
 mutual
   pub data StatementFits : Names → Statement → Names → Type 0 where
     FitsVar : {names : Names} {init : Expression} (place : Place) (name : List ℕ) (at : Place) → HasType names init NumberType → IsNew names name
-      → StatementFits names (Var place name at init) ((name, LocalName) ∷ names)
+        → StatementFits names (Var place name at init) ((name, LocalName) ∷ names)
     FitsVal : {names : Names} {kind : Kind} {init : Expression} (place : Place) (name : List ℕ) (at : Place) → HasType names init (ElementType kind)
-      → IsNew names name → StatementFits names (Val place name at init) ((name, ElementName kind) ∷ names)
+        → IsNew names name → StatementFits names (Val place name at init) ((name, ElementName kind) ∷ names)
     FitsField : {names : Names} {number : ℕ} {kind : Kind} {target set_to : Expression} (place : Place) (name : List ℕ) (how : How)
-      → named names name ≡ Some (FieldName number kind) → is_built_in number ≡ false → HasType names target (ElementType kind)
-      → HasType names set_to NumberType → StatementFits names (Assign place name (Some target) how set_to) names
+        → named names name ≡ Some (FieldName number kind) → is_built_in number ≡ false → HasType names target (ElementType kind)
+        → HasType names set_to NumberType → StatementFits names (Assign place name (Some target) how set_to) names
     FitsScalar : {names : Names} {number : ℕ} {set_to : Expression} (place : Place) (name : List ℕ) (how : How)
-      → named names name ≡ Some (ScalarName number) → IsReduction how → HasType names set_to NumberType
-      → StatementFits names (Assign place name None how set_to) names
+        → named names name ≡ Some (ScalarName number) → IsReduction how → HasType names set_to NumberType
+        → StatementFits names (Assign place name None how set_to) names
     FitsLocal : {names : Names} {set_to : Expression} (place : Place) (name : List ℕ) (how : How) → named names name ≡ Some LocalName
-      → HasType names set_to NumberType → StatementFits names (Assign place name None how set_to) names
+        → HasType names set_to NumberType → StatementFits names (Assign place name None how set_to) names
     FitsIf : {names : Names} {test : Expression} {first second : Body} (place : Place) (has_else : Bool) → HasType names test TruthType
-      → BodyFits names first → BodyFits names second → StatementFits names (If place test first second has_else) names
+        → BodyFits names first → BodyFits names second → StatementFits names (If place test first second has_else) names
     FitsWhile : {names : Names} {test : Expression} {body : Body} (place : Place) → HasType names test TruthType → BodyFits names body
-      → StatementFits names (While place test body) names
+        → StatementFits names (While place test body) names
     FitsFor : {names : Names} {kind : Kind} {arg : Expression} {body : Body} (place : Place) (name : List ℕ) (at : Place) (set : SetName) (set_at : Place)
-      → HasType names arg (ElementType kind) → has_set kind set ≡ true → IsNew names name → BodyFits ((name, ElementName (kind_of set)) ∷ names) body
-      → StatementFits names (For place name at set set_at arg body) names
+        → HasType names arg (ElementType kind) → has_set kind set ≡ true → IsNew names name → BodyFits ((name, ElementName (kind_of set)) ∷ names) body
+        → StatementFits names (For place name at set set_at arg body) names
 
   pub data BodyFits : Names → Body → Type 0 where
     FitsNothing : (names : Names) → BodyFits names no_statement
     FitsThen : {names behind : Names} {s : Statement} {more : Body} → StatementFits names s behind → BodyFits behind more
-      → BodyFits names (statement s more)
+        → BodyFits names (statement s more)
 
 -- ONE MODE: each access has the mode of every later one to the same field or scalar.
 abbrev pub AgreesWith : AccessAt → AccessAt → Type 0
@@ -68,18 +67,18 @@ pub record ComprehensionFits (c : Comprehension) : Type 0 where
 mutual
   pub data ItemFits : Here → MainItem → Type 0 where
     FitsMainField : {here : Here} {init : Expression} (place : Place) (name : List ℕ) (at : Place) (kind : Kind) → HasType here.names init NumberType
-      → IsNew here.names name → ItemFits here (MainField place name at kind init)
+        → IsNew here.names name → ItemFits here (MainField place name at kind init)
     FitsMainVar : {here : Here} {init : Expression} (place : Place) (name : List ℕ) (at : Place) → HasType here.names init NumberType
-      → IsNew here.names name → ItemFits here (MainVar place name at init)
+        → IsNew here.names name → ItemFits here (MainVar place name at init)
     FitsMainAssign : {here : Here} {number : ℕ} {set_to : Expression} (place : Place) (name : List ℕ) (how : How)
-      → named here.names name ≡ Some (ScalarName number) → HasType here.names set_to NumberType → ItemFits here (MainAssign place name how set_to)
+        → named here.names name ≡ Some (ScalarName number) → HasType here.names set_to NumberType → ItemFits here (MainAssign place name how set_to)
     FitsMainIf : {here : Here} {test : Expression} {first second : Main} (place : Place) (has_else : Bool) → HasType here.names test TruthType
-      → MainFits (into_block here) first → MainFits (into_block (out_of_block here (behind_main (into_block here) first))) second
-      → ItemFits here (MainIf place test first second has_else)
+        → MainFits (into_block here) first → MainFits (into_block (out_of_block here (behind_main (into_block here) first))) second
+        → ItemFits here (MainIf place test first second has_else)
     FitsMainWhile : {here : Here} {test : Expression} {body : Main} (place : Place) → HasType here.names test TruthType → MainFits (into_block here) body
-      → ItemFits here (MainWhile place test body)
+        → ItemFits here (MainWhile place test body)
     FitsMainFor : {here : Here} {body : Body} (place : Place) (name : List ℕ) (at : Place) (over : Kind) → IsNew here.names name
-      → ComprehensionFits (comprehension_at here name over body) → ItemFits here (MainFor place name at over body)
+        → ComprehensionFits (comprehension_at here name over body) → ItemFits here (MainFor place name at over body)
     FitsPrint : {here : Here} {value : Expression} (place : Place) → HasType here.names value NumberType → ItemFits here (Print place value)
 
   pub data MainFits : Here → Main → Type 0 where

@@ -64,26 +64,26 @@ mutual
     IsScalar : {number : ℕ} (place : Place) (name : List ℕ) → named names name ≡ Some (ScalarName number) → HasType names (Name place name) NumberType
     IsLocal : (place : Place) (name : List ℕ) → named names name ≡ Some LocalName → HasType names (Name place name) NumberType
     IsElement : {kind : Kind} (place : Place) (name : List ℕ) → named names name ≡ Some (ElementName kind)
-      → HasType names (Name place name) (ElementType kind)
+        → HasType names (Name place name) (ElementType kind)
     IsField : {number : ℕ} {kind : Kind} {arg : Expression} (place : Place) (name : List ℕ) → named names name ≡ Some (FieldName number kind)
-      → HasType names arg (ElementType kind) → HasType names (Field place name arg) NumberType
+        → HasType names arg (ElementType kind) → HasType names (Field place name arg) NumberType
     IsCall : {kind : Kind} {type : ValueType} {arg : Expression} (place : Place) (fun : Fun) → HasType names arg (ElementType kind)
-      → call_type fun kind ≡ Some type → HasType names (Call place fun arg) type
+        → call_type fun kind ≡ Some type → HasType names (Call place fun arg) type
     IsTowards : {kind other : Kind} {arg to : Expression} (place : Place) → HasType names arg (ElementType kind) → HasType names to (ElementType other)
-      → can_point kind other ≡ true → HasType names (Towards place arg to) (ElementType kind)
+        → can_point kind other ≡ true → HasType names (Towards place arg to) (ElementType kind)
     IsNeg : {arg : Expression} (place : Place) → HasType names arg NumberType → HasType names (Neg place arg) NumberType
     IsNot : {arg : Expression} (place : Place) → HasType names arg TruthType → HasType names (Not place arg) TruthType
     IsChain : {type : ValueType} {first : Expression} {links : Links} (level : Level) → HasType names first type → FollowsType names type links
-      → HasType names (Chain level first links) type
+        → HasType names (Chain level first links) type
     AreNumbers : {left right : Expression} (place : Place) (rel : Rel) → HasType names left NumberType → HasType names right NumberType
-      → HasType names (Compare place rel left right) TruthType
+        → HasType names (Compare place rel left right) TruthType
     AreElements : {kind : Kind} {left right : Expression} (place : Place) (rel : Rel) → HasType names left (ElementType kind)
-      → HasType names right (ElementType kind) → is_sameness rel ≡ true → HasType names (Compare place rel left right) TruthType
+        → HasType names right (ElementType kind) → is_sameness rel ≡ true → HasType names (Compare place rel left right) TruthType
 
   pub data FollowsType (names : Names) : ValueType → Links → Type 0 where
     NoMore : (type : ValueType) → FollowsType names type no_links
     OneMore : {type : ValueType} {arg : Expression} {more : Links} (sign : Sign) (place : Place) → operand_type sign ≡ type
-      → HasType names arg type → FollowsType names type more → FollowsType names type (link sign place arg more)
+        → HasType names arg type → FollowsType names type more → FollowsType names type (link sign place arg more)
 
 -- THE TYPE, if there is one, computed
 abbrev pub only_of : ValueType → Option ValueType → Option ValueType

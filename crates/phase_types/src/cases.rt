@@ -7,7 +7,7 @@ ghost use Rattle.liszt_base.specs.declared.answers.ProgramWhat.TheVariants.{Name
 ghost use Rattle.liszt_base.specs.declared.elements.Kind.TheVariants.{Vertex, Edge, Face, Cell};
 ghost use Rattle.liszt_base.specs.declared.elements.Op.TheVariants.{Add};
 ghost use Rattle.liszt_tree.specs.Trees.{degrees, over_faces};
-ghost use Rattle.phase_types.specs.Cases.{at, fault, conflict_between, adds_itself, adds_and_multiplies, adds_and_writes, adds_and_takes, unknown_name, name_twice, truth_as_number, third_operand, first_operand, writes_scalar, adds_scalar_to_itself, writes_mark, edges_of_edge, unknown_in_set, edge_for_vertex, blocks};
+ghost use Rattle.phase_types.specs.Cases.{at, fault, conflict_between, adds_itself, adds_and_multiplies, adds_and_writes, adds_and_takes, unknown_name, name_twice, truth_as_number, third_operand, first_operand, writes_scalar, adds_scalar_to_itself, writes_mark, edges_of_edge, unknown_in_set, edge_for_vertex, blocks, in_line, reads_then_writes, scalar_as_target, scalar_as_argument, visits_again, built_in_as_name, name_of_other_block, writes_scalar_unknown, truth_for_built_in, edge_and_vertex, flipped_vertex};
 ghost use Rattle.phase_types.specs.Names.{fields_of, scalars_of, comprehensions_of, scopes_of};
 ghost use Rattle.phase_types.specs.Walk.{check_fault, mode_of, scalar_mode_of};
 
@@ -33,6 +33,21 @@ fn first_of_two()
     ensures target_before_value { check_fault edge_for_vertex ≡ fault TypeMismatch 2 26 }
     ensures argument_before_set { check_fault unknown_in_set ≡ fault NameUnknown 1 50 }
     ensures one_operator { check_fault adds_and_takes ≡ None }
+{}
+
+/// Where accesses stand, and what is walked first: a conflict's first place is that of the first access, a target and a set's argument are
+/// walked with their accesses, a name is tested before a body, and a scalar's `=` before the value. Names end with their block.
+fn steps_of_the_walk()
+    ensures first_access { check_fault reads_then_writes ≡ conflict_between (in_line 3) (in_line 1) }
+    ensures in_target { check_fault scalar_as_target ≡ conflict_between (in_line 5) (in_line 3) }
+    ensures in_argument { check_fault scalar_as_argument ≡ conflict_between (in_line 5) (in_line 3) }
+    ensures name_before_body { check_fault visits_again ≡ fault NameTwice 1 7 }
+    ensures built_in_name { check_fault built_in_as_name ≡ fault NameTwice 1 7 }
+    ensures other_block { check_fault name_of_other_block ≡ fault NameUnknown 1 2 }
+    ensures write_before_value { check_fault writes_scalar_unknown ≡ fault ScalarWrite 1 3 }
+    ensures first_operator { check_fault truth_for_built_in ≡ fault TypeMismatch 1 7 }
+    ensures other_kinds { check_fault edge_and_vertex ≡ fault TypeMismatch 1 2 }
+    ensures no_flip { check_fault flipped_vertex ≡ fault TypeMismatch 1 3 }
 {}
 
 /// Names end with their block, and fields, scalars, comprehensions and scopes are numbered in the order of the text.

@@ -8,4 +8,3 @@ pub struct FieldInfo {
     pub kind: Kind,
     pub scope: u32,
 }
-

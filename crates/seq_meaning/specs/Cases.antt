@@ -1,28 +1,30 @@
 -- Programs and meshes of the worked cases, with the places of their texts where a trap may stand. This project's own.
-use Rattle.std.specs.Prelude.{ℕ, ◌-◌, ◌^◌, true, false, Option, Some, None, List, [], ◌∷◌, codes, replicate, ℤ, pos, neg_ℤ}
+use Rattle.std.specs.Prelude.{ℕ, ◌-◌, ◌^◌, true, false, Option, Some, None, List, [], ◌∷◌, codes, replicate, slice_get, unwrap_or, ℤ, pos, neg_ℤ}
+use Rattle.std.specs.Option.{option_map}
 use Rattle.liszt_base.specs.MeshLists.{MeshLists}
-use Rattle.liszt_base.specs.declared.answers.Place.{Place}
+use Rattle.liszt_base.specs.declared.accesses.Mode.{Mode}
 use Rattle.liszt_base.specs.declared.answers.RunEnd.{RunEnd}
 use Rattle.liszt_base.specs.declared.answers.RunEnd.TheVariants.{Trap as IsTrap}
 use Rattle.liszt_base.specs.declared.answers.TrapKind.{TrapKind}
-use Rattle.liszt_base.specs.declared.elements.Elem.{Elem}
 use Rattle.liszt_base.specs.declared.elements.Kind.{Kind}
 use Rattle.liszt_base.specs.declared.elements.Kind.TheVariants.{Vertex, Edge, Face, Cell}
 use Rattle.liszt_base.specs.declared.elements.Op.TheVariants.{Add, Min}
 use Rattle.liszt_base.specs.declared.elements.SetName.TheVariants.{Vertices, Edges, EdgesCcw}
-use Rattle.liszt_base.specs.declared.mesh.Point.{Point}
 use Rattle.liszt_tree.specs.declared.tree.Fun.{Fun}
 use Rattle.liszt_tree.specs.declared.tree.Fun.TheVariants.{Head, Tail, Inside, Outside, Flip, Valid, Id}
 use Rattle.liszt_tree.specs.declared.tree.How.{How}
 use Rattle.liszt_tree.specs.declared.tree.How.TheVariants.{Set, Fold, Less}
 use Rattle.liszt_tree.specs.declared.tree.Level.TheVariants as level
-use Rattle.liszt_tree.specs.declared.tree.Rel.TheVariants.{Same as Equal, Below}
+use Rattle.liszt_tree.specs.declared.tree.Rel.TheVariants.{Same as Equal, Other, Below}
 use Rattle.liszt_tree.specs.declared.tree.Sign.TheVariants as sign
-use Rattle.liszt_tree.specs.Tree.{nowhere, Expression, Number, Name, Field, Call, Towards, Neg, Not, Chain, Compare, no_links, link}
-use Rattle.liszt_tree.specs.Tree.{Statement, Var, Val, Assign, If, While, For, Body, no_statement, statement}
+use Rattle.liszt_tree.specs.Tree.{nowhere, Expression, Number, Field, Call, Towards, Not, Chain, Compare, no_links, link}
+use Rattle.liszt_tree.specs.Tree.{Statement, Var, Val, Assign, If, While, For, Body, body_of, no_statement, statement}
 use Rattle.liszt_tree.specs.Tree.{MainItem, MainField, MainVar, MainAssign, MainIf, MainWhile, MainFor, Print, Main, no_item, item}
 use Rattle.liszt_tree.specs.Trees.{name, number}
 use Rattle.phase_types.specs.Cases.{at, one, only}
+use Rattle.phase_types.specs.Names.{Comprehension, comprehension_of}
+use Rattle.kernel_eval.specs.States.{State, Act}
+use Rattle.seq_meaning.specs.Runs.{Progress, empty, phases_of}
 
 -- a trap of the main program; a trap of an element's iteration
 abbrev pub traps_in_main : TrapKind → ℕ → ℕ → Option RunEnd
@@ -40,9 +42,9 @@ abbrev pub placed : MeshLists
 placed =
     record {
       points = record { x = pos 10; y = neg_ℤ (pos 1); z = pos 500000; mark = pos 7 } ∷ record { x = pos 1000000; y = pos 0; z = pos 0; mark = neg_ℤ (pos 2) }
-        ∷ record { x = pos 0; y = pos 1000000; z = pos 0; mark = pos 0 } ∷ record { x = pos 0; y = pos 0; z = pos 1000000; mark = pos 0 } ∷ [];
+          ∷ record { x = pos 0; y = pos 1000000; z = pos 0; mark = pos 0 } ∷ record { x = pos 0; y = pos 0; z = pos 1000000; mark = pos 0 } ∷ [];
       cells = record { corners = 0 ∷ 1 ∷ 2 ∷ 3 ∷ []; region = pos 2500000 } ∷ [];
-      base = 1
+      base = 1;
     }
 
 -- shorter names for parts of trees
@@ -207,3 +209,97 @@ reads_built_ins =
     (item (over (codes "v") Vertex
     (one (sets (codes "X") (name (codes "v")) Set (sum (Field nowhere (codes "PosX") (name (codes "v"))) (Field nowhere (codes "Mark") (name (codes "v")))))))
     (only (over (codes "c") Cell (one (sets (codes "R") c Set (Field nowhere (codes "Region") c)))))))
+
+-- LOCALS end with their block: `var n = 0; while (n < 2) { var t = 1; n += 1 } for (v <- vertices(c)) { var t = 1 } val t = c; F(t) = n`
+abbrev pub declares_local : List ℕ → ℕ → Statement
+declares_local text n = Var nowhere text nowhere (number n)
+
+abbrev pub below : List ℕ → ℕ → Expression
+below text n = Compare nowhere Below (name text) (number n)
+
+abbrev pub adds_one : List ℕ → Statement
+adds_one text = Assign nowhere text None (Fold Add) (number 1)
+
+abbrev pub locals_end : Main
+locals_end =
+    item (declares (codes "F") Cell (pos 0)) (only (over (codes "c") Cell (body_of
+    (declares_local (codes "n") 0
+    ∷ While nowhere (below (codes "n") 2) (two (declares_local (codes "t") 1) (adds_one (codes "n")))
+    ∷ For nowhere (codes "v") nowhere Vertices nowhere c (one (declares_local (codes "t") 1))
+    ∷ Val nowhere (codes "t") nowhere c
+    ∷ sets (codes "F") (name (codes "t")) Set (name (codes "n")) ∷ []))))
+
+-- TURNS of a main loop and of the loops in it: `while (i < 2) { var j = 0; while (j < 2) { j += 1 } i += 1 }`, the loops at 1 and 2
+abbrev pub counts : List ℕ → MainItem
+counts text = MainAssign nowhere text (Fold Add) (number 1)
+
+abbrev pub nested_loops : Main
+nested_loops =
+    item (MainVar nowhere (codes "i") nowhere (number 0))
+    (only (MainWhile (at 1 1) (below (codes "i") 2)
+    (item (MainVar nowhere (codes "j") nowhere (number 0))
+    (item (MainWhile (at 2 1) (below (codes "j") 2) (only (counts (codes "j")))) (only (counts (codes "i")))))))
+
+-- `while (i < 3) { for (v <- vertices(mesh)) { var j = 0; while (j < 3) { j += 1; s += 1 } } i += 1; print s }`, the inner loop at 2
+abbrev pub loops_of_iterations : Main
+loops_of_iterations =
+    item (MainVar nowhere (codes "i") nowhere (number 0)) (item (MainVar nowhere (codes "s") nowhere (number 0))
+    (only (MainWhile (at 1 1) (below (codes "i") 3)
+    (item (over (codes "v") Vertex
+    (two (declares_local (codes "j") 0) (While (at 2 1) (below (codes "j") 3) (two (adds_one (codes "j")) (adds_one (codes "s"))))))
+    (item (counts (codes "i")) (only (Print nowhere (name (codes "s")))))))))
+
+-- `while (1 / 0 == 0) { }`, with `/` at 5, and `F(outside(f)) = 1 / 0`
+abbrev pub zero_divided : Expression
+zero_divided = Chain level.Product (number 1) (link sign.Over (at 1 5) (number 0) no_links)
+
+abbrev pub loop_divides : Main
+loop_divides = only (MainWhile (at 1 1) (Compare nowhere Equal zero_divided (number 0)) no_item)
+
+abbrev pub divides_for_nil : Main
+divides_for_nil = item (declares (codes "F") Cell (pos 0)) (only (over (codes "f") Face (one (sets (codes "F") (call Outside f) Set zero_divided))))
+
+-- `for (v <- vertices(outside(f))) { }`, with the set's word at 3
+abbrev pub set_of_nil : Main
+set_of_nil = only (over (codes "f") Face (one (For nowhere (codes "v") nowhere Vertices (at 1 3) (call Outside f) no_statement)))
+
+-- `val o = outside(f); if (o == outside(f)) { F(f) += 1 } if (o != inside(f)) { F(flip(f)) += 2 } if (valid(towards(f, o))) { } else { F(f) += 4 }`
+abbrev pub compares_nil : Main
+compares_nil =
+    item (declares (codes "F") Face (pos 0)) (only (over (codes "f") Face (body_of
+    (Val nowhere (codes "o") nowhere (call Outside f)
+    ∷ when (Compare nowhere Equal (name (codes "o")) (call Outside f)) (one (sets (codes "F") f (Fold Add) (number 1)))
+    ∷ when (Compare nowhere Other (name (codes "o")) (call Inside f)) (one (sets (codes "F") (call Flip f) (Fold Add) (number 2)))
+    ∷ If nowhere (call Valid (Towards nowhere f (name (codes "o")))) no_statement (one (sets (codes "F") f (Fold Add) (number 4))) true ∷ []))))
+
+-- ACTS: `F(c) -= Region(c) + G(c); m min= ID(c) - 4; m min= 1 / (ID(c) - 1)`, with `/` at 5
+abbrev pub acts_and_folds : Main
+acts_and_folds =
+    item (declares (codes "F") Cell (pos 0)) (item (declares (codes "G") Cell (pos 7)) (item (MainVar nowhere (codes "m") nowhere (number 0))
+    (only (over (codes "c") Cell (body_of
+    (sets (codes "F") c Less (sum (Field nowhere (codes "Region") c) (Field nowhere (codes "G") c))
+    ∷ Assign nowhere (codes "m") None (Fold Min) (difference (call Id c) (number 4))
+    ∷ Assign nowhere (codes "m") None (Fold Min)
+    (Chain level.Product (number 1) (link sign.Over (at 1 5) (difference (call Id c) (number 1)) no_links)) ∷ []))))))
+
+abbrev pub first_comprehension : Main → Comprehension
+first_comprehension program = unwrap_or (comprehension_of program 0) (record { names = []; name = []; over = Cell; body = no_statement })
+
+abbrev pub first_state : MeshLists → Main → State
+first_state mesh program = unwrap_or (option_map (λ phase. phase.1) (slice_get (phases_of mesh program 0) 0)) (empty 0)
+
+abbrev pub an_act : ℕ → ℕ → Mode → ℤ → Act
+an_act field id mode value = record { spot = record { field = field; id = id }; mode = mode; value = value }
+
+-- blocks behind `if`: none is written, an empty one is written, and a true test
+abbrev pub scopes_of_branches : Main
+scopes_of_branches =
+    item (MainIf nowhere (below_zero 1) no_item no_item false) (item (MainIf nowhere (below_zero 1) no_item no_item true)
+    (only (MainIf nowhere (below_zero 0) no_item no_item false)))
+  where
+    below_zero : ℕ → Expression
+    below_zero n = Compare nowhere Equal (number n) (number 0)
+
+-- so many numbers printed
+abbrev pub with_prints : ℕ → Progress
+with_prints n = record { state = record { fields = []; scalars = []; prints = replicate n (pos 1); turns = 0 }; path = [] }

@@ -1,6 +1,6 @@
 -- What a comprehension and a whole program mean, and the path of a run. This project's own profile after Liszt (DeVito et al.,
 -- Supercomputing 2011).
-use Rattle.std.specs.Prelude.{ℕ, ◌-◌, ◌^◌, nat_lt, Bool, true, false, Option, Some, None, List, [], ◌∷◌, ◌++◌, length, drop, reverse, replicate, ℤ, Result, Ok, Err}
+use Rattle.std.specs.Prelude.{ℕ, ◌-◌, ◌^◌, nat_lt, Bool, Option, Some, None, List, [], ◌∷◌, ◌++◌, length, drop, reverse, replicate, ℤ, Result, Ok, Err}
 use Rattle.std.specs.List.{filter_map}
 use Rattle.liszt_base.specs.MeshLists.{MeshLists}
 use Rattle.liszt_base.specs.declared.answers.Place.{Place}
@@ -98,7 +98,7 @@ abbrev pub out_of_scope : State → State → State
 out_of_scope before s =
     record s {
       fields = drop (length s.fields - length before.fields) s.fields;
-      scalars = drop (length s.scalars - length before.scalars) s.scalars
+      scalars = drop (length s.scalars - length before.scalars) s.scalars;
     }
 
 abbrev pub in_scope : ℕ → Doing Progress Done → Doing Progress Done
@@ -119,11 +119,11 @@ abbrev mutual
   item_meaning mesh turns here (MainIf place test first second has_else) =
       let behind_first : Here = out_of_block here (behind_main (into_block here) first) in
       truth_here mesh here test >>= λ b. either b
-        (in_scope (next_scope here) (main_meaning mesh turns (into_block here) first))
-        (either (is_block second has_else) (in_scope (next_scope behind_first) (main_meaning mesh turns (into_block behind_first) second)) does_nothing)
+      (in_scope (next_scope here) (main_meaning mesh turns (into_block here) first))
+      (either (is_block second has_else) (in_scope (next_scope behind_first) (main_meaning mesh turns (into_block behind_first) second)) does_nothing)
   item_meaning mesh turns here (MainWhile place test body) =
       loop program_turns (in_program (traps Spent place)) (truth_here mesh here test)
-        (in_scope (next_scope here) (main_meaning mesh turns (into_block here) body))
+      (in_scope (next_scope here) (main_meaning mesh turns (into_block here) body))
   item_meaning mesh turns here (MainFor place name at over body) =
       meets (ComprehensionMet (next_comprehension here)) >> on_state (all_or_nothing (comprehension mesh (comprehension_at here name over body) turns))
   item_meaning mesh turns here (Print place value) = number_here mesh here value >>= λ n. printed place n

@@ -1,15 +1,19 @@
 //! Worked cases of the definitions, which the checker computes. Each function does nothing; its contract is the case.
 #![allow(dead_code)]
 
-ghost use Rattle.std.specs.Prelude.{◌≡◌, ◌-◌, ◌^◌, Some, [], ◌∷◌, ℤ, map, pos, neg_ℤ, replicate};
+ghost use Rattle.std.specs.Prelude.{◌≡◌, ◌-◌, ◌^◌, Some, None, Ok, [], ◌∷◌, ℤ, map, pos, neg_ℤ, replicate};
 ghost use Rattle.liszt_base.specs.declared.answers.RunEnd.TheVariants.{Done as IsDone};
-ghost use Rattle.liszt_base.specs.declared.answers.TrapKind.TheVariants.{Overflow, ZeroDivide, NilElement, Spent};
-ghost use Rattle.liszt_base.specs.declared.elements.Kind.TheVariants.{Edge, Face};
-ghost use Rattle.liszt_tree.specs.Tree.{no_item};
+ghost use Rattle.liszt_base.specs.declared.answers.TrapKind.TheVariants.{Overflow, ZeroDivide, NilElement, Prints, Spent};
+ghost use Rattle.liszt_base.specs.declared.elements.Kind.TheVariants.{Cell, Edge, Face, Vertex};
+ghost use Rattle.liszt_tree.specs.Tree.{no_item, nowhere};
 ghost use Rattle.liszt_tree.specs.Trees.{degrees};
+ghost use Rattle.liszt_base.specs.declared.accesses.Mode.TheVariants.{Read, Reduce};
+ghost use Rattle.liszt_base.specs.declared.elements.Op.TheVariants.{Add};
+ghost use Rattle.kernel_eval.specs.Iterations.{acts, end_of, iteration_end, partial};
+ghost use Rattle.phase_types.specs.Names.{scopes_of};
 ghost use Rattle.mesh_topology.specs.Meshes.{one_cell, two_cells};
-ghost use Rattle.seq_meaning.specs.Cases.{adds_greatest, along_cycles, counts_in_iterations, counts_no_ends, counts_to, divides_by_ids, field_in_scope, heat, id_of_nil, least_id, no_cells, placed, reads_built_ins, sides_of_faces, traps_at_element, traps_in_main, wraps_and_traps, writes_heads, writes_twice};
-ghost use Rattle.seq_meaning.specs.Runs.{ScopeOpened, ScopeClosed, FieldDeclared, ComprehensionMet, RunOver, fields_left, path_of, phases_of, prints_of, run_end};
+ghost use Rattle.seq_meaning.specs.Cases.{acts_and_folds, adds_greatest, an_act, compares_nil, divides_for_nil, first_comprehension, first_state, locals_end, loop_divides, loops_of_iterations, nested_loops, scopes_of_branches, set_of_nil, with_prints, along_cycles, counts_in_iterations, counts_no_ends, counts_to, divides_by_ids, field_in_scope, heat, id_of_nil, least_id, no_cells, placed, reads_built_ins, sides_of_faces, traps_at_element, traps_in_main, wraps_and_traps, writes_heads, writes_twice};
+ghost use Rattle.seq_meaning.specs.Runs.{printed, ScopeOpened, ScopeClosed, FieldDeclared, ComprehensionMet, RunOver, fields_left, path_of, phases_of, prints_of, run_end};
 
 /// The degree of each vertex of one cell and of two.
 fn degrees_of_vertices()
@@ -79,4 +83,58 @@ fn paths()
     ensures scalars { map (λ phase. phase.1.scalars) (phases_of two_cells field_in_scope 5) ≡ ((0, pos 0) ∷ []) ∷ ((0, pos 1) ∷ []) ∷ [] }
     ensures fields { fields_left two_cells field_in_scope 5 ≡ Some ((6, pos 1 ∷ pos 1 ∷ []) ∷ []) }
     ensures prints { prints_of two_cells field_in_scope 5 ≡ pos 2 ∷ [] }
+{}
+
+/// Names of a block end with it: what a loop's body and a set's body declared can be declared again.
+fn locals()
+    ensures { fields_left two_cells locals_end 2 ≡ Some ((6, pos 2 ∷ pos 2 ∷ []) ∷ []) }
+{}
+
+/// Loops in loops share the turns of the main program, and each iteration has its own and takes none from it.
+fn shared_turns()
+    ensures six { run_end one_cell nested_loops 6 ≡ Some IsDone }
+    ensures five { run_end one_cell nested_loops 5 ≡ traps_in_main Spent 2 1 }
+    ensures three { run_end one_cell nested_loops 3 ≡ traps_in_main Spent 1 1 }
+    ensures iterations { prints_of one_cell loops_of_iterations 3 ≡ pos 12 ∷ pos 24 ∷ pos 36 ∷ [] }
+    ensures inner { run_end one_cell loops_of_iterations 2 ≡ traps_at_element Spent 2 1 Vertex 0 }
+    ensures turns_left { map (λ entry. entry.at.turns) (path_of one_cell loops_of_iterations 2) ≡ 2 ∷ 1 ∷ 1 ∷ 1 ∷ [] }
+{}
+
+/// What comes first: a test before its turn, a value before its target.
+fn order_of_traps()
+    ensures test { run_end one_cell loop_divides 0 ≡ traps_in_main ZeroDivide 1 5 }
+    ensures value { run_end one_cell divides_for_nil 0 ≡ traps_at_element ZeroDivide 1 5 Face 0 }
+    ensures set { run_end one_cell set_of_nil 0 ≡ traps_at_element NilElement 1 3 Face 0 }
+{}
+
+/// Nil is the same as nil alone, and nothing points to it.
+fn nil_compared()
+    ensures { fields_left two_cells compares_nil 0 ≡ Some ((6, pos 7 ∷ pos 7 ∷ pos 7 ∷ pos 3 ∷ pos 7 ∷ pos 7 ∷ pos 7 ∷ []) ∷ []) }
+{}
+
+/// Acts with what was read and what was reduced by, which is the negative number for `-=`; what a scalar is reduced by, up to a trap; and
+/// the end of an iteration.
+fn acts_of_iterations()
+    ensures acts { acts placed (first_comprehension acts_and_folds) 0 (first_state placed acts_and_folds) 0
+        ≡ an_act 4 0 Read (pos 2500000) ∷ an_act 7 0 Read (pos 7) ∷ an_act 6 0 (Reduce Add) (neg_ℤ (pos 2500007)) ∷ [] }
+    ensures folded { partial two_cells (first_comprehension acts_and_folds) 0 (first_state two_cells acts_and_folds) 0 0 ≡ Some (neg_ℤ (pos 4)) }
+    ensures folded_to_trap { partial two_cells (first_comprehension acts_and_folds) 0 (first_state two_cells acts_and_folds) 1 0 ≡ Some (neg_ℤ (pos 3)) }
+    ensures done { iteration_end two_cells (first_comprehension acts_and_folds) 0 (first_state two_cells acts_and_folds) 0 ≡ Some IsDone }
+    ensures trapped { iteration_end two_cells (first_comprehension acts_and_folds) 0 (first_state two_cells acts_and_folds) 1 ≡ traps_at_element ZeroDivide 1 5 Cell 1 }
+    ensures not_folded { partial two_cells (first_comprehension degrees) 0 (first_state two_cells degrees) 0 0 ≡ None }
+{}
+
+/// A block is a scope where it is there: an `else` that was written is one, also an empty one. A trap in a scope doesn't close it, and a
+/// comprehension that traps leaves the state from before it.
+fn scopes()
+    ensures numbers { map (λ entry. entry.event) (path_of one_cell scopes_of_branches 0)
+        ≡ ScopeOpened 0 ∷ ScopeOpened 3 ∷ ScopeClosed 3 ∷ ScopeOpened 4 ∷ ScopeClosed 4 ∷ RunOver IsDone ∷ [] }
+    ensures parents { scopes_of scopes_of_branches ≡ replicate 5 0 }
+    ensures scalars { map (λ entry. entry.at.scalars) (path_of two_cells acts_and_folds 0) ≡ [] ∷ [] ∷ [] ∷ ((0, pos 0) ∷ []) ∷ ((0, pos 0) ∷ []) ∷ [] }
+{}
+
+/// 65,536 numbers are printed, and the next traps.
+fn most_prints()
+    ensures last { (printed nowhere (pos 1) (with_prints 65535)).answer ≡ Ok tt }
+    ensures further { end_of (printed nowhere (pos 1) (with_prints 65536)).answer ≡ traps_in_main Prints 0 0 }
 {}

@@ -1,4 +1,4 @@
-//! What whole programs mean. So far there are the definitions, with worked cases and laws.
+//! What whole programs mean. So far there are the definitions, with worked cases.
 #![tactic(auto)]
 
 mod cases;

@@ -7,4 +7,4 @@ use Rattle.kernel_eval.proofs.laws.loops_go_on.Goals as goal
 pub returns : goal.returns
 returns c mesh names place test body =
     loop_is place (in_block (body_meaning mesh names body)) (keeps_in_block turns_kept (keeps_body turns_kept mesh names body))
-      (truth_in mesh names test) (keeps_truth_in turns_kept mesh names test)
+    (truth_in mesh names test) (keeps_truth_in turns_kept mesh names test)
