@@ -5,3 +5,7 @@ pub mod Texts
 pub mod Simples
 pub mod Words
 pub mod WordFronts
+pub mod MatchRows
+pub mod MatchSteps
+pub mod MatchWalk
+pub mod MatchEnd

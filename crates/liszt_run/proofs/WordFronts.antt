@@ -10,7 +10,7 @@ chosen false o y e = cc
 some_is : {A : Type 0} (x y : A) → ◌≡◌ {A = Option A} (Some x) (Some y) → x ≡ y
 some_is x y e = cc
 
-after_takes : (front word rest : List ℕ) → after front word ≡ Some rest → word ≡ front ++ rest
+pub after_takes : (front word rest : List ℕ) → after front word ≡ Some rest → word ≡ front ++ rest
 after_takes [] word rest e = some_is word rest e
 after_takes (p ∷ front) [] rest e = cc
 after_takes (p ∷ front) (b ∷ word) rest e =

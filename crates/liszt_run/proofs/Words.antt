@@ -43,7 +43,7 @@ still_waits None options plain waits = absurd cc
 still_waits (Some name) options plain waits = refl
 
 -- other than four plain words are no command
-no_command : (plain : List (List ℕ)) (turns : Option ℕ) → length plain ≢ 4 → option_and_then (seq_in plain) turns ≡ None
+pub no_command : (plain : List (List ℕ)) (turns : Option ℕ) → length plain ≢ 4 → option_and_then (seq_in plain) turns ≡ None
 no_command plain None other = refl
 no_command [] (Some t) other = refl
 no_command (a ∷ []) (Some t) other = refl

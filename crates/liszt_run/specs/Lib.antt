@@ -5,3 +5,4 @@ pub mod Expected
 pub mod Answers
 pub mod Simple
 pub mod SimpleReading
+pub mod Matched

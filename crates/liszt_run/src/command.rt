@@ -1,10 +1,15 @@
-ghost use Rattle.std.specs.Prelude.{◌≡◌, ◌∷◌, ◌++◌, [], ℕ, List, None};
+ghost use Rattle.std.specs.Prelude.{◌≡◌, ◌∷◌, ◌++◌, [], ℕ, List, None, Ok, IfOk};
 ghost use Rattle.std.specs.Option.{option_map, option_and_then};
+ghost use Rattle.clap.specs.Words.{found_of};
 ghost use Rattle.liszt_run.specs.Commands.{command_of, turns_in};
 ghost use Rattle.liszt_run.specs.CommandReading.{command_after, given_so_far, plain_so_far, names};
+ghost use Rattle.liszt_run.specs.Matched.{command_found};
 
+use crate::matched::matches_of;
 use crate::options::{OptionName, given_by, is_name, number_in, option_of};
-use liszt_base::WordList;
+use clap::ArgMatches;
+use liszt_base::{NoMemory, WordList};
+use std::alloc::Global;
 
 /// The turns of a command that doesn't say them, and the most that it may say.
 const TURNS: u64 = 1_000_000;
@@ -29,8 +34,46 @@ struct Taken<'a> {
     count: usize,
 }
 
-/// The command that the words name, if they name one.
-pub fn command_of(words: &WordList) -> Option<Command<'_>>
+/// The command that the words name, if they name one: whether they do is tested here, and what they name is read by clap.
+pub fn command_of(alloc: Global, words: &WordList) -> Result<Option<Command<'_>>, NoMemory>
+    ensures command { IfOk result (λ command. option_map (λ c. record { program = c.program.now; node = c.node.now; ele = c.ele.now; turns = c.turns }) command ≡ command_of words.now) }
+    ensures none { command_of words.now ≡ None → result ≡ Ok None }
+{
+    let Some(_) = tested(words) else {
+        return Ok(None);
+    };
+    let Ok(matches) = matches_of(alloc, words) else {
+        return Err(NoMemory);
+    };
+    let Some(command) = command_found(&matches) else {
+        unreachable!()
+    };
+    Ok(Some(command))
+}
+
+/// The command that clap found.
+fn command_found<'a>(matches: &ArgMatches<'a>) -> Option<Command<'a>>
+    ensures { option_map (λ c. record { program = c.program.now; node = c.node.now; ele = c.ele.now; turns = c.turns }) result ≡ command_found (found_of matches.now) }
+{
+    let mode = matches.get_str("mode")?;
+    let program = matches.get_str("program")?;
+    let node = matches.get_str("node")?;
+    let ele = matches.get_str("ele")?;
+    let turns = match matches.get_str("turns") {
+        Some(value) => Some(value.as_bytes()),
+        None => None,
+    };
+    let found = Taken {
+        waits: None,
+        turns,
+        plain: [mode, program, node, ele],
+        count: 4,
+    };
+    found.command()
+}
+
+/// The command that the words name, if they name one, by a test of each word.
+fn tested(words: &WordList) -> Option<Command<'_>>
     ensures { option_map (λ c. record { program = c.program.now; node = c.node.now; ele = c.ele.now; turns = c.turns }) result ≡ command_of words.now }
 {
     let mut taken = Taken {

@@ -33,8 +33,10 @@ pub fn prepare<F: Shelf>(alloc: Global, words: &WordList, shelf: &mut F) -> Resu
     ensures told { (files : Files) → F.held shelf.old ≡ Some files
         → Prepares words.now files (F.tally shelf.old) (F.tally shelf.new) result }
 {
-    let Some(command) = command_of(words) else {
-        return Err(Ended::Usage);
+    let command = match command_of(alloc, words) {
+        Ok(Some(command)) => command,
+        Ok(None) => return Err(Ended::Usage),
+        Err(_) => return Err(Ended::NoMemory),
     };
     let program = take_program(alloc, shelf, command.program)?;
     let points = take_points(alloc, shelf, command.node)?;

@@ -9,6 +9,7 @@ mod incidence;
 mod inputs;
 mod job;
 mod laws;
+mod matched;
 #[cfg(test)]
 mod mesh_faults;
 mod options;

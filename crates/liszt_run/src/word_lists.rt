@@ -159,7 +159,7 @@ fn told_of(alloc: Global, row: &str) -> Result<String, AllocError> {
         let word = String::from_str(alloc, word)?;
         words.push(word).map_err(|_| AllocError)?;
     }
-    match command_of(&words) {
+    match command_of(alloc, &words).map_err(|_| AllocError)? {
         Some(command) => {
             format!(in alloc;
                 "{} {} {} {}",

@@ -3,7 +3,7 @@ use Rattle.std.specs.Option.{option_map, option_and_then}
 use Rattle.std.specs.String.{string_bytes}
 use Rattle.liszt_run.specs.CommandReading.{names}
 use Rattle.liszt_run.proofs.Words.{word_at}
-use Rattle.liszt_run.proofs.command.command_of.Goals as goal
+use Rattle.liszt_run.proofs.command.tested.Goals as goal
 
 pub returns-in_err-taken : goal.returns-in_err-taken
 returns-in_err-taken c =
