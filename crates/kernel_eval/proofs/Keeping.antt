@@ -1,7 +1,9 @@
--- What every meaning keeps because each of its single changes does: one induction over expressions, statements and bodies.
-use Rattle.std.proofs.Common.{◌≡◌, ℕ, zero, suc, Bool, true, false, List, [], ◌∷◌, refl}
+-- What every meaning keeps because each of its single changes does: one induction over expressions, statements and bodies. A change of a
+-- field or a scalar has to keep it only for what the body accesses.
+use Rattle.std.proofs.Common.{◌≡◌, ◌⊎◌, ℕ, zero, suc, Bool, true, false, List, [], ◌∷◌, refl, inl, inr}
 use Rattle.std.specs.Prelude.{Option, Some, None, ℤ, Result, Ok, Err, ◌&&◌, int_le, pos, int_div, int_rem, ◌+ℤ◌, ◌-ℤ◌, ◌*ℤ◌, neg_ℤ}
 use Rattle.liszt_base.specs.MeshLists.{MeshLists}
+use Rattle.liszt_base.specs.declared.accesses.Mode.{Mode}
 use Rattle.liszt_base.specs.declared.accesses.Mode.TheVariants.{Read}
 use Rattle.liszt_base.specs.declared.accesses.Spot.{Spot}
 use Rattle.liszt_base.specs.declared.answers.Place.{Place}
@@ -18,27 +20,73 @@ use Rattle.liszt_tree.specs.Tree.{Expression, Number, Name, Field, Call, Towards
 use Rattle.liszt_tree.specs.Tree.{Statement, Var, Val, Assign, If, While, For, Body, no_statement, statement}
 use Rattle.topo_operators.specs.Operators.{towards, members}
 use Rattle.phase_types.specs.Names.{Names, Named, FieldName, ScalarName, named}
-use Rattle.phase_types.specs.Walk.{mode_by}
+use Rattle.phase_types.specs.Walk.{Subject, OfField, OfScalar, mode_by}
 use Rattle.kernel_eval.specs.Kept.{Keeps}
 use Rattle.kernel_eval.specs.Outcomes.{Stop, Outcome, gives, go_on, and_then, either, each, does_nothing, changes, taking_a_turn, loop_within, loop}
 use Rattle.kernel_eval.specs.States.{Moment, value_in, with_value, with_fields, with_scalar_value, scalar_value, with_local, with_local_value, with_element, with_act, with_state, out_of_block, local_named, element_named}
 use Rattle.kernel_eval.specs.Meaning.{Value, NumberValue, TruthValue, ElementValue, number_of, truth_of, element_of, fitting, divided, operated, is_decided, negated, denied, compared, id_at, call_of, scalar_read, global_read, name_read, read_spot, field_read, spot_of, held, is_in_range, meaning, meaning_behind, number_in, truth_in, element_in, operand, assigned, spot_assigned, field_assigned, folds_of, scalar_assigned, global_assigned, name_assigned, in_block, moment_turns, each_member, statement_meaning, body_meaning, traps}
 
-pub record IsKept (R : Moment → Moment → Type 0) : Type 0 where
+-- WHAT A BODY ACCESSES by the names that are global: the fields that it reads or assigns, and the scalars that it assigns
+abbrev pub Access : Type 0
+Access = Subject × Mode
+
+abbrev pub TouchesField : Option Named → Mode → Access → Type 0
+TouchesField (Some (FieldName number kind)) mode a = (OfField number, mode) ≡ a
+TouchesField _ mode a = ⊥
+
+abbrev pub TouchesScalar : Option Named → Mode → Access → Type 0
+TouchesScalar (Some (ScalarName number)) mode a = (OfScalar number, mode) ≡ a
+TouchesScalar _ mode a = ⊥
+
+abbrev mutual
+  pub Touches : Names → Access → Expression → Type 0
+  Touches names a (Field place name arg) = Touches names a arg ⊎ TouchesField (named names name) Read a
+  Touches names a (Call place fun arg) = Touches names a arg
+  Touches names a (Towards place arg to) = Touches names a arg ⊎ Touches names a to
+  Touches names a (Neg place arg) = Touches names a arg
+  Touches names a (Not place arg) = Touches names a arg
+  Touches names a (Chain level first links) = Touches names a first ⊎ TouchesBehind names a links
+  Touches names a (Compare place rel left right) = Touches names a left ⊎ Touches names a right
+  Touches names a _ = ⊥
+
+  pub TouchesBehind : Names → Access → Links → Type 0
+  TouchesBehind names a no_links = ⊥
+  TouchesBehind names a (link sign place arg more) = Touches names a arg ⊎ TouchesBehind names a more
+
+abbrev mutual
+  pub StatementTouches : Names → Access → Statement → Type 0
+  StatementTouches names a (Var place name at init) = Touches names a init
+  StatementTouches names a (Val place name at init) = Touches names a init
+  StatementTouches names a (Assign place name (Some target) how set_to) =
+      (Touches names a target ⊎ TouchesField (named names name) (mode_by how) a) ⊎ Touches names a set_to
+  StatementTouches names a (Assign place name None how set_to) = TouchesScalar (named names name) (mode_by how) a ⊎ Touches names a set_to
+  StatementTouches names a (If place test first second has_else) = (Touches names a test ⊎ BodyTouches names a first) ⊎ BodyTouches names a second
+  StatementTouches names a (While place test body) = Touches names a test ⊎ BodyTouches names a body
+  StatementTouches names a (For place name at set set_at arg body) = Touches names a arg ⊎ BodyTouches names a body
+
+  pub BodyTouches : Names → Access → Body → Type 0
+  BodyTouches names a no_statement = ⊥
+  BodyTouches names a (statement s more) = StatementTouches names a s ⊎ BodyTouches names a more
+
+-- WHAT SINGLE CHANGES KEEP, those of fields and scalars where P admits the access
+pub record IsKept (P : Access → Type 0) (R : Moment → Moment → Type 0) : Type 0 where
   pub same : (m : Moment) → R m m
   pub later : (a b c : Moment) → R a b → R b c → R a c
   pub local : (name : List ℕ) (n : ℤ) (m : Moment) → R m (with_local name n m)
   pub local_set : (name : List ℕ) (n : ℤ) (m : Moment) → R m (with_local_value name n m)
   pub element : (name : List ℕ) (x : Option Elem) (m : Moment) → R m (with_element name x m)
-  pub read : (spot : Spot) (n : ℤ) (m : Moment) → R m (with_act (record { spot = spot; mode = Read; value = n }) m)
-  pub spot_set : (spot : Spot) (how : How) (n old : ℤ) (m : Moment) → value_in m.state.fields spot ≡ Some old
+  pub read : (spot : Spot) (n : ℤ) (m : Moment) → P (OfField spot.field, Read) → R m (with_act (record { spot = spot; mode = Read; value = n }) m)
+  pub spot_set : (spot : Spot) (how : How) (n old : ℤ) (m : Moment) → P (OfField spot.field, mode_by how) → value_in m.state.fields spot ≡ Some old
       → R m (with_act (record { spot = spot; mode = mode_by how; value = operand how n }) (with_state (with_fields (with_value spot (assigned how old n) m.state.fields) m.state) m))
-  pub scalar_set : (how : How) (n : ℤ) (scalar : ℕ) (old : ℤ) (m : Moment)
+  pub scalar_set : (how : How) (n : ℤ) (scalar : ℕ) (old : ℤ) (m : Moment) → P (OfScalar scalar, mode_by how)
       → R m (folds_of how scalar n (with_state (with_scalar_value scalar (assigned how old n) m.state) m))
   pub block : (before m : Moment) → R before m → R before (out_of_block before m)
   pub turn : (n : ℕ) (m : Moment) → m.state.turns ≡ suc n → R m (with_state (record m.state { turns = n }) m)
 
-module _ {R : Moment → Moment → Type 0} (k : IsKept R) where
+module _ {P : Access → Type 0} {R : Moment → Moment → Type 0} (k : IsKept P R) where
+  abbrev Only : (Access → Type 0) → Type 0
+  Only Touched = (a : Access) → Touched a → P a
+
   -- doing one thing after the other
   keeps_go_on : {A B : Type 0} {next : A → Moment → Outcome Moment B} → ((a : A) → Keeps R (next a)) → (before s : Moment) → R before s
       → (answer : Result A Stop) → R before (go_on next s answer).after
@@ -151,82 +199,89 @@ module _ {R : Moment → Moment → Type 0} (k : IsKept R) where
   keeps_name_read None (Some x) global = record { kept = k.same }
   keeps_name_read None None global = keeps_global_read global
 
-  keeps_read_spot : (spot : Spot) (value : Option ℤ) → Keeps R (read_spot spot value)
-  keeps_read_spot spot (Some n) = record { kept = k.read spot n }
-  keeps_read_spot spot None = record { kept = k.same }
+  keeps_read_spot : (spot : Spot) (value : Option ℤ) → P (OfField spot.field, Read) → Keeps R (read_spot spot value)
+  keeps_read_spot spot (Some n) h = record { kept = λ m. k.read spot n m h }
+  keeps_read_spot spot None h = record { kept = k.same }
 
-  keeps_field_read : (mesh : MeshLists) (place : Place) (global : Option Named) (x : Option Elem) → Keeps R (field_read mesh place global x)
-  keeps_field_read mesh place (Some (FieldName number kind)) (Some x) =
-      record { kept = λ m. (keeps_read_spot (spot_of number x) (held mesh m.state (spot_of number x))).kept m }
-  keeps_field_read mesh place (Some (FieldName number kind)) None = record { kept = k.same }
-  keeps_field_read mesh place _ x = record { kept = k.same }
+  keeps_field_read : (mesh : MeshLists) (place : Place) (global : Option Named) (x : Option Elem) → Only (TouchesField global Read) → Keeps R (field_read mesh place global x)
+  keeps_field_read mesh place (Some (FieldName number kind)) (Some x) h =
+      record { kept = λ m. (keeps_read_spot (spot_of number x) (held mesh m.state (spot_of number x)) (h _ refl)).kept m }
+  keeps_field_read mesh place (Some (FieldName number kind)) None h = record { kept = k.same }
+  keeps_field_read mesh place _ x h = record { kept = k.same }
 
   value_keeps : (v : Value) → Keeps R (gives v)
   value_keeps v = record { kept = k.same }
 
   -- expressions
   mutual
-    pub keeps_meaning : (mesh : MeshLists) (names : Names) (e : Expression) → Keeps R (meaning mesh names e)
-    keeps_meaning mesh names (Number place n) = record { kept = k.same }
-    keeps_meaning mesh names (Name place name) =
+    pub keeps_meaning : (mesh : MeshLists) (names : Names) (e : Expression) → Only (λ a. Touches names a e) → Keeps R (meaning mesh names e)
+    keeps_meaning mesh names (Number place n) h = record { kept = k.same }
+    keeps_meaning mesh names (Name place name) h =
         record { kept = λ m. (keeps_name_read (local_named m name) (element_named m name) (named names name)).kept m }
-    keeps_meaning mesh names (Field place name arg) =
-        keeps_then (keeps_meaning mesh names arg) (λ v. keeps_then (keeps_element_of v) (λ x. keeps_field_read mesh place (named names name) x))
-    keeps_meaning mesh names (Call place fun arg) =
-        keeps_then (keeps_meaning mesh names arg) (λ v. keeps_then (keeps_element_of v) (λ x. keeps_call mesh place fun x))
-    keeps_meaning mesh names (Towards place arg to) =
-        keeps_then (keeps_meaning mesh names arg) (λ v. keeps_then (keeps_element_of v)
-        (λ x. keeps_then (keeps_meaning mesh names to) (λ w. keeps_then (keeps_element_of w) (λ y. value_keeps (ElementValue (towards mesh x y))))))
-    keeps_meaning mesh names (Neg place arg) = keeps_then (keeps_meaning mesh names arg) (λ v. keeps_negated place v)
-    keeps_meaning mesh names (Not place arg) = keeps_then (keeps_meaning mesh names arg) (λ v. keeps_denied v)
-    keeps_meaning mesh names (Chain level first links) =
-        keeps_then (keeps_meaning mesh names first) (λ v. keeps_behind mesh names v links)
-    keeps_meaning mesh names (Compare place rel left right) =
-        keeps_then (keeps_meaning mesh names left) (λ v. keeps_then (keeps_meaning mesh names right) (λ w. keeps_compared rel v w))
+    keeps_meaning mesh names (Field place name arg) h =
+        keeps_then (keeps_meaning mesh names arg (λ a t. h a (inl t)))
+        (λ v. keeps_then (keeps_element_of v) (λ x. keeps_field_read mesh place (named names name) x (λ a t. h a (inr t))))
+    keeps_meaning mesh names (Call place fun arg) h =
+        keeps_then (keeps_meaning mesh names arg h) (λ v. keeps_then (keeps_element_of v) (λ x. keeps_call mesh place fun x))
+    keeps_meaning mesh names (Towards place arg to) h =
+        keeps_then (keeps_meaning mesh names arg (λ a t. h a (inl t))) (λ v. keeps_then (keeps_element_of v)
+        (λ x. keeps_then (keeps_meaning mesh names to (λ a t. h a (inr t)))
+        (λ w. keeps_then (keeps_element_of w) (λ y. value_keeps (ElementValue (towards mesh x y))))))
+    keeps_meaning mesh names (Neg place arg) h = keeps_then (keeps_meaning mesh names arg h) (λ v. keeps_negated place v)
+    keeps_meaning mesh names (Not place arg) h = keeps_then (keeps_meaning mesh names arg h) (λ v. keeps_denied v)
+    keeps_meaning mesh names (Chain level first links) h =
+        keeps_then (keeps_meaning mesh names first (λ a t. h a (inl t))) (λ v. keeps_behind mesh names v links (λ a t. h a (inr t)))
+    keeps_meaning mesh names (Compare place rel left right) h =
+        keeps_then (keeps_meaning mesh names left (λ a t. h a (inl t)))
+        (λ v. keeps_then (keeps_meaning mesh names right (λ a t. h a (inr t))) (λ w. keeps_compared rel v w))
 
-    keeps_behind : (mesh : MeshLists) (names : Names) (v : Value) (links : Links) → Keeps R (meaning_behind mesh names v links)
-    keeps_behind mesh names v no_links = record { kept = k.same }
-    keeps_behind mesh names v (link sign place arg more) =
-        keeps_then (keeps_either (is_decided sign v) (value_keeps v) (keeps_then (keeps_meaning mesh names arg) (λ w. keeps_operated sign place v w)))
-        (λ u. keeps_behind mesh names u more)
+    keeps_behind : (mesh : MeshLists) (names : Names) (v : Value) (links : Links) → Only (λ a. TouchesBehind names a links)
+        → Keeps R (meaning_behind mesh names v links)
+    keeps_behind mesh names v no_links h = record { kept = k.same }
+    keeps_behind mesh names v (link sign place arg more) h =
+        keeps_then (keeps_either (is_decided sign v) (value_keeps v)
+        (keeps_then (keeps_meaning mesh names arg (λ a t. h a (inl t))) (λ w. keeps_operated sign place v w)))
+        (λ u. keeps_behind mesh names u more (λ a t. h a (inr t)))
 
-  keeps_number_in : (mesh : MeshLists) (names : Names) (e : Expression) → Keeps R (number_in mesh names e)
-  keeps_number_in mesh names e = keeps_then (keeps_meaning mesh names e) (λ v. keeps_number_of v)
+  keeps_number_in : (mesh : MeshLists) (names : Names) (e : Expression) → Only (λ a. Touches names a e) → Keeps R (number_in mesh names e)
+  keeps_number_in mesh names e h = keeps_then (keeps_meaning mesh names e h) (λ v. keeps_number_of v)
 
-  pub keeps_truth_in : (mesh : MeshLists) (names : Names) (e : Expression) → Keeps R (truth_in mesh names e)
-  keeps_truth_in mesh names e = keeps_then (keeps_meaning mesh names e) (λ v. keeps_truth_of v)
+  pub keeps_truth_in : (mesh : MeshLists) (names : Names) (e : Expression) → Only (λ a. Touches names a e) → Keeps R (truth_in mesh names e)
+  keeps_truth_in mesh names e h = keeps_then (keeps_meaning mesh names e h) (λ v. keeps_truth_of v)
 
-  keeps_element_in : (mesh : MeshLists) (names : Names) (e : Expression) → Keeps R (element_in mesh names e)
-  keeps_element_in mesh names e = keeps_then (keeps_meaning mesh names e) (λ v. keeps_element_of v)
+  keeps_element_in : (mesh : MeshLists) (names : Names) (e : Expression) → Only (λ a. Touches names a e) → Keeps R (element_in mesh names e)
+  keeps_element_in mesh names e h = keeps_then (keeps_meaning mesh names e h) (λ v. keeps_element_of v)
 
   -- single steps of statements
-  keeps_spot : (spot : Spot) (how : How) (n : ℤ) (m : Moment) (value : Option ℤ) → value_in m.state.fields spot ≡ value
-      → R m (spot_assigned spot how n value m).after
-  keeps_spot spot how n m (Some old) e = k.spot_set spot how n old m e
-  keeps_spot spot how n m None e = k.same m
+  keeps_spot : (spot : Spot) (how : How) (n : ℤ) (m : Moment) (value : Option ℤ) → P (OfField spot.field, mode_by how)
+      → value_in m.state.fields spot ≡ value → R m (spot_assigned spot how n value m).after
+  keeps_spot spot how n m (Some old) h e = k.spot_set spot how n old m h e
+  keeps_spot spot how n m None h e = k.same m
 
-  keeps_field_assigned : (place : Place) (how : How) (global : Option Named) (n : ℤ) (x : Option Elem) → Keeps R (field_assigned place how global n x)
-  keeps_field_assigned place how (Some (FieldName number kind)) n (Some x) =
-      record { kept = λ m. keeps_spot (spot_of number x) how n m (value_in m.state.fields (spot_of number x)) refl }
-  keeps_field_assigned place how (Some (FieldName number kind)) n None = record { kept = k.same }
-  keeps_field_assigned place how _ n x = record { kept = k.same }
+  keeps_field_assigned : (place : Place) (how : How) (global : Option Named) (n : ℤ) (x : Option Elem)
+      → Only (TouchesField global (mode_by how)) → Keeps R (field_assigned place how global n x)
+  keeps_field_assigned place how (Some (FieldName number kind)) n (Some x) h =
+      record { kept = λ m. keeps_spot (spot_of number x) how n m (value_in m.state.fields (spot_of number x)) (h _ refl) refl }
+  keeps_field_assigned place how (Some (FieldName number kind)) n None h = record { kept = k.same }
+  keeps_field_assigned place how _ n x h = record { kept = k.same }
 
-  keeps_scalar_assigned : (how : How) (n : ℤ) (scalar : ℕ) (value : Option ℤ) → Keeps R (scalar_assigned how n scalar value)
-  keeps_scalar_assigned how n scalar (Some old) = record { kept = k.scalar_set how n scalar old }
-  keeps_scalar_assigned how n scalar None = record { kept = k.same }
+  keeps_scalar_assigned : (how : How) (n : ℤ) (scalar : ℕ) (value : Option ℤ) → P (OfScalar scalar, mode_by how) → Keeps R (scalar_assigned how n scalar value)
+  keeps_scalar_assigned how n scalar (Some old) h = record { kept = λ m. k.scalar_set how n scalar old m h }
+  keeps_scalar_assigned how n scalar None h = record { kept = k.same }
 
-  keeps_global_assigned : (how : How) (n : ℤ) (global : Option Named) → Keeps R (global_assigned how n global)
-  keeps_global_assigned how n (Some (ScalarName number)) =
-      record { kept = λ m. (keeps_scalar_assigned how n number (scalar_value m.state number)).kept m }
-  keeps_global_assigned how n _ = record { kept = k.same }
+  keeps_global_assigned : (how : How) (n : ℤ) (global : Option Named) → Only (TouchesScalar global (mode_by how)) → Keeps R (global_assigned how n global)
+  keeps_global_assigned how n (Some (ScalarName number)) h =
+      record { kept = λ m. (keeps_scalar_assigned how n number (scalar_value m.state number) (h _ refl)).kept m }
+  keeps_global_assigned how n _ h = record { kept = k.same }
 
-  keeps_name_assigned : (name : List ℕ) (how : How) (n : ℤ) (value : Option ℤ) (global : Option Named) → Keeps R (name_assigned name how n value global)
-  keeps_name_assigned name how n (Some old) global = record { kept = k.local_set name (assigned how old n) }
-  keeps_name_assigned name how n None global = keeps_global_assigned how n global
+  keeps_name_assigned : (name : List ℕ) (how : How) (n : ℤ) (value : Option ℤ) (global : Option Named)
+      → Only (TouchesScalar global (mode_by how)) → Keeps R (name_assigned name how n value global)
+  keeps_name_assigned name how n (Some old) global h = record { kept = k.local_set name (assigned how old n) }
+  keeps_name_assigned name how n None global h = keeps_global_assigned how n global h
 
-  local_assigned_keeps : (names : Names) (name : List ℕ) (how : How) (n : ℤ)
+  local_assigned_keeps : (names : Names) (name : List ℕ) (how : How) (n : ℤ) → Only (TouchesScalar (named names name) (mode_by how))
       → Keeps R (λ m. name_assigned name how n (local_named m name) (named names name) m)
-  local_assigned_keeps names name how n = record { kept = λ m. (keeps_name_assigned name how n (local_named m name) (named names name)).kept m }
+  local_assigned_keeps names name how n h = record { kept = λ m. (keeps_name_assigned name how n (local_named m name) (named names name) h).kept m }
 
   local_keeps : (name : List ℕ) (n : ℤ) → Keeps R (changes (with_local name n))
   local_keeps name n = record { kept = k.local name n }
@@ -252,23 +307,28 @@ module _ {R : Moment → Moment → Type 0} (k : IsKept R) where
 
   -- statements and bodies
   mutual
-    pub keeps_statement : (mesh : MeshLists) (names : Names) (s : Statement) → Keeps R (statement_meaning mesh names s)
-    keeps_statement mesh names (Var place name at init) = keeps_then (keeps_number_in mesh names init) (λ n. local_keeps name n)
-    keeps_statement mesh names (Val place name at init) = keeps_then (keeps_element_in mesh names init) (λ x. element_keeps name x)
-    keeps_statement mesh names (Assign place name (Some target) how set_to) =
-        keeps_then (keeps_number_in mesh names set_to) (λ n. keeps_then (keeps_element_in mesh names target)
-        (λ x. keeps_field_assigned place how (named names name) n x))
-    keeps_statement mesh names (Assign place name None how set_to) =
-        keeps_then (keeps_number_in mesh names set_to) (λ n. local_assigned_keeps names name how n)
-    keeps_statement mesh names (If place test first second has_else) =
-        keeps_then (keeps_truth_in mesh names test) (λ b. keeps_either b (keeps_in_block (keeps_body mesh names first))
-        (keeps_in_block (keeps_body mesh names second)))
-    keeps_statement mesh names (While place test body) =
-        keeps_loop (spent_keeps place) (keeps_truth_in mesh names test) (keeps_in_block (keeps_body mesh names body))
-    keeps_statement mesh names (For place name at set set_at arg body) =
-        keeps_then (keeps_element_in mesh names arg) (λ x. keeps_members mesh set_at
-        (λ member. keeps_then (element_keeps name member) (λ done. keeps_body mesh names body)) (members mesh set) x)
+    pub keeps_statement : (mesh : MeshLists) (names : Names) (s : Statement) → Only (λ a. StatementTouches names a s)
+        → Keeps R (statement_meaning mesh names s)
+    keeps_statement mesh names (Var place name at init) h = keeps_then (keeps_number_in mesh names init h) (λ n. local_keeps name n)
+    keeps_statement mesh names (Val place name at init) h = keeps_then (keeps_element_in mesh names init h) (λ x. element_keeps name x)
+    keeps_statement mesh names (Assign place name (Some target) how set_to) h =
+        keeps_then (keeps_number_in mesh names set_to (λ a t. h a (inr t)))
+        (λ n. keeps_then (keeps_element_in mesh names target (λ a t. h a (inl (inl t))))
+        (λ x. keeps_field_assigned place how (named names name) n x (λ a t. h a (inl (inr t)))))
+    keeps_statement mesh names (Assign place name None how set_to) h =
+        keeps_then (keeps_number_in mesh names set_to (λ a t. h a (inr t))) (λ n. local_assigned_keeps names name how n (λ a t. h a (inl t)))
+    keeps_statement mesh names (If place test first second has_else) h =
+        keeps_then (keeps_truth_in mesh names test (λ a t. h a (inl (inl t))))
+        (λ b. keeps_either b (keeps_in_block (keeps_body mesh names first (λ a t. h a (inl (inr t)))))
+        (keeps_in_block (keeps_body mesh names second (λ a t. h a (inr t)))))
+    keeps_statement mesh names (While place test body) h =
+        keeps_loop (spent_keeps place) (keeps_truth_in mesh names test (λ a t. h a (inl t)))
+        (keeps_in_block (keeps_body mesh names body (λ a t. h a (inr t))))
+    keeps_statement mesh names (For place name at set set_at arg body) h =
+        keeps_then (keeps_element_in mesh names arg (λ a t. h a (inl t))) (λ x. keeps_members mesh set_at
+        (λ member. keeps_then (element_keeps name member) (λ done. keeps_body mesh names body (λ a t. h a (inr t)))) (members mesh set) x)
 
-    pub keeps_body : (mesh : MeshLists) (names : Names) (body : Body) → Keeps R (body_meaning mesh names body)
-    keeps_body mesh names no_statement = record { kept = k.same }
-    keeps_body mesh names (statement s more) = keeps_then (keeps_statement mesh names s) (λ done. keeps_body mesh names more)
+    pub keeps_body : (mesh : MeshLists) (names : Names) (body : Body) → Only (λ a. BodyTouches names a body) → Keeps R (body_meaning mesh names body)
+    keeps_body mesh names no_statement h = record { kept = k.same }
+    keeps_body mesh names (statement s more) h =
+        keeps_then (keeps_statement mesh names s (λ a t. h a (inl t))) (λ done. keeps_body mesh names more (λ a t. h a (inr t)))

@@ -20,7 +20,7 @@ folded_turns Set n scalar old m = refl
 folded_turns (Fold op) n scalar old m = refl
 folded_turns Less n scalar old m = refl
 
-pub turns_kept : IsKept HasNoMoreTurns
+pub turns_kept : IsKept (λ a. Unit {0}) HasNoMoreTurns
 turns_kept =
     record {
       same = λ m. omega arith;
@@ -28,9 +28,9 @@ turns_kept =
       local = λ name n m. omega arith;
       local_set = λ name n m. omega arith;
       element = λ name x m. omega arith;
-      read = λ spot n m. omega arith;
-      spot_set = λ spot how n old m e. omega arith;
-      scalar_set = λ how n scalar old m. omega (arith, folded_turns how n scalar old m);
+      read = λ spot n m any. omega arith;
+      spot_set = λ spot how n old m any e. omega arith;
+      scalar_set = λ how n scalar old m any. omega (arith, folded_turns how n scalar old m);
       block = λ before m r. r;
       turn = λ n m e. omega (arith, e);
     }
@@ -67,7 +67,7 @@ both a b c r s =
       fields_are = s.fields_are ∙ ap (λ fields. after_acts fields s.more) r.fields_are ∙ sym (after_more r.more s.more a.state.fields);
     }
 
-pub fields_made : IsKept MakesFields
+pub fields_made : IsKept (λ a. Unit {0}) MakesFields
 fields_made =
     record {
       same = λ m. no_act m m refl refl;
@@ -75,18 +75,18 @@ fields_made =
       local = λ name n m. no_act m _ refl refl;
       local_set = λ name n m. no_act m _ refl refl;
       element = λ name x m. no_act m _ refl refl;
-      read = λ spot n m. record {
+      read = λ spot n m any. record {
         more = record { spot = spot; mode = Read; value = n } ∷ [];
         acts_are = refl;
         fields_are = sym (read_changes_nothing spot n (value_in m.state.fields spot) m.state.fields);
       };
-      spot_set = λ spot how n old m e. record {
+      spot_set = λ spot how n old m any e. record {
         more = record { spot = spot; mode = mode_by how; value = operand how n } ∷ [];
         acts_are = refl;
         fields_are = sym (set_is_act spot how n old m.state.fields)
             ∙ ap (λ value. by_act (record { spot = spot; mode = mode_by how; value = operand how n }) value m.state.fields) (sym e);
       };
-      scalar_set = folded_acts;
+      scalar_set = λ how n scalar old m any. folded_acts how n scalar old m;
       block = λ before m r. record { more = r.more; acts_are = r.acts_are; fields_are = r.fields_are };
       turn = λ n m e. no_act m _ refl refl;
     }

@@ -1,3 +1,5 @@
+pub mod Accessing
 pub mod Keeping
 pub mod KeptLaws
 pub mod Loops
+pub mod Modes

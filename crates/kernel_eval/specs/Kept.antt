@@ -1,10 +1,12 @@
 -- What the laws speak of: what doing something keeps. This project's own.
-use Rattle.std.specs.Prelude.{◌≡◌, ◌≤◌, ◌++◌, Bool, Option, Some, None, List, [], ◌∷◌, ℤ}
+use Rattle.std.specs.Prelude.{◌≡◌, ℕ, ◌≤◌, ◌==◌, ◌++◌, Bool, Option, Some, None, List, [], ◌∷◌, ℤ}
 use Rattle.liszt_base.specs.Reductions.{fold}
 use Rattle.liszt_base.specs.declared.accesses.Mode.{Mode}
 use Rattle.liszt_base.specs.declared.accesses.Mode.TheVariants.{Read, Write, Reduce}
+use Rattle.phase_types.specs.Names.{Comprehension, found}
+use Rattle.phase_types.specs.Walk.{OfField, OfScalar, mode_in}
 use Rattle.kernel_eval.specs.Outcomes.{Outcome, ◌>>=◌, ◌>>◌, either, does_nothing, Turns, taking_a_turn}
-use Rattle.kernel_eval.specs.States.{Fields, value_in, with_value, Act, Moment}
+use Rattle.kernel_eval.specs.States.{Fields, value_in, with_value, State, Act, ScalarFold, Moment}
 
 -- what stands afterwards is so to what stood before
 pub record Keeps {S A : Type 0} (R : S → S → Type 0) (doing : S → Outcome S A) : Type 0 where
@@ -31,6 +33,21 @@ pub record MakesFields (m after : Moment) : Type 0 where
   pub more : List Act
   pub acts_are : after.acts ≡ m.acts ++ more
   pub fields_are : after.state.fields ≡ after_acts m.state.fields more
+
+-- THE ONE MODE of an act's field, or of a reduced scalar, in a comprehension; and what a mode, or none, leaves as it was
+abbrev pub HasTheMode : Comprehension → Act → Type 0
+HasTheMode c act = mode_in c (OfField act.spot.field) ≡ Some act.mode
+
+abbrev pub FoldsByTheMode : Comprehension → ScalarFold → Type 0
+FoldsByTheMode c folded = mode_in c (OfScalar folded.scalar) ≡ Some (Reduce folded.op)
+
+abbrev pub ChangesNothing : Option Mode → Type 0
+ChangesNothing None = Unit {0}
+ChangesNothing (Some Read) = Unit {0}
+ChangesNothing (Some mode) = ⊥
+
+abbrev pub field_values : State → ℕ → Option (List ℤ)
+field_values s field = found (λ number. number == field) s.fields
 
 -- A LOOP ONCE MORE: its test, and where that is true a turn and the body, and then the loop
 abbrev pub loop_once : {S : Type 0} → Turns S → (S → Outcome S (Unit {0})) → (S → Outcome S Bool) → (S → Outcome S (Unit {0}))

@@ -1,14 +1,18 @@
 //! Laws of the definitions, each the contract of a function that does nothing.
 
 ghost use Rattle.liszt_base.specs.MeshLists.{MeshLists};
-ghost use Rattle.std.specs.Prelude.{◌≡◌, Err};
+ghost use Rattle.std.specs.Prelude.{◌≡◌, ℕ, Err};
+ghost use Rattle.std.specs.List.{AllByRecursion};
 ghost use Rattle.liszt_base.specs.declared.answers.Place.{Place};
 ghost use Rattle.liszt_base.specs.declared.answers.TrapKind.TheVariants.{Spent};
 ghost use Rattle.liszt_tree.specs.Tree.{Body, Expression, Statement, While, statement};
-ghost use Rattle.phase_types.specs.Names.{Names};
-ghost use Rattle.kernel_eval.specs.Kept.{Keeps, HasNoMoreTurns, MakesFields, loop_once};
+ghost use Rattle.phase_types.specs.Names.{Comprehension, Names};
+ghost use Rattle.phase_types.specs.Typed.{ComprehensionFits};
+ghost use Rattle.phase_types.specs.Walk.{OfField, mode_in};
+ghost use Rattle.kernel_eval.specs.Iterations.{acts, iteration};
+ghost use Rattle.kernel_eval.specs.Kept.{ChangesNothing, FoldsByTheMode, HasNoMoreTurns, HasTheMode, Keeps, MakesFields, field_values, loop_once};
 ghost use Rattle.kernel_eval.specs.Outcomes.{Stop, stops};
-ghost use Rattle.kernel_eval.specs.States.{Moment};
+ghost use Rattle.kernel_eval.specs.States.{Moment, State};
 ghost use Rattle.kernel_eval.specs.Meaning.{body_meaning, in_block, moment_turns, statement_meaning, traps, truth_in};
 
 /// Turns never rise, whatever a body does.
@@ -36,4 +40,18 @@ pub fn stops_end()
     ensures { (mesh : MeshLists) (names : Names) (s : Statement) (more : Body) (m : Moment) (stop : Stop)
         → (statement_meaning mesh names s m).answer ≡ Err stop
         → body_meaning mesh names (statement s more) m ≡ stops stop (statement_meaning mesh names s m).after }
+{}
+
+/// Each act of an iteration has the one mode in which its comprehension accesses the field, and each reduction of a scalar that of the scalar.
+pub fn acts_have_the_mode()
+    ensures acts { (mesh : MeshLists) (c : Comprehension) (turns : ℕ) (s : State) (id : ℕ) → ComprehensionFits c
+        → AllByRecursion (HasTheMode c) (acts mesh c turns s id) }
+    ensures folds { (mesh : MeshLists) (c : Comprehension) (turns : ℕ) (s : State) (id : ℕ) → ComprehensionFits c
+        → AllByRecursion (FoldsByTheMode c) (iteration mesh c turns s id).after.folds }
+{}
+
+/// A field that its comprehension doesn't access, or only reads, has the same values after an iteration as before, also where it traps.
+pub fn other_fields_stay()
+    ensures { (mesh : MeshLists) (c : Comprehension) (turns : ℕ) (s : State) (id field : ℕ) → ComprehensionFits c
+        → ChangesNothing (mode_in c (OfField field)) → field_values (iteration mesh c turns s id).after.state field ≡ field_values s field }
 {}

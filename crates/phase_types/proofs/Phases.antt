@@ -43,7 +43,7 @@ same_mode Read = refl
 same_mode Write = refl
 same_mode (Reduce op) = same_op op
 
-subjects_are : (subject other : Subject) → is_subject subject other ≡ true → subject ≡ other
+pub subjects_are : (subject other : Subject) → is_subject subject other ≡ true → subject ≡ other
 subjects_are (OfField number) (OfField other) e = ap OfField (eqb-true number other e)
 subjects_are (OfScalar number) (OfScalar other) e = ap OfScalar (eqb-true number other e)
 subjects_are _ _ e = absurd cc
@@ -51,6 +51,9 @@ subjects_are _ _ e = absurd cc
 same_subject : (subject : Subject) → is_subject subject subject ≡ true
 same_subject (OfField number) = eq-eqb number number refl
 same_subject (OfScalar number) = eq-eqb number number refl
+
+pub same_subjects : (subject other : Subject) → subject ≡ other → is_subject subject other ≡ true
+same_subjects subject other is = subst (λ other. is_subject subject other ≡ true) is (same_subject subject)
 
 turned : (subject other : Subject) → is_subject subject other ≡ true → is_subject other subject ≡ true
 turned subject other e = subst (λ other. is_subject other subject ≡ true) (subjects_are subject other e) (same_subject subject)

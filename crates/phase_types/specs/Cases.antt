@@ -162,6 +162,10 @@ reads_then_writes =
     item (declared (codes "A"))
     (over_elements Cell (reads_field 1 (codes "p") ∷ reads_field 2 (codes "q") ∷ assigns_at 3 (codes "A") x Set (number 1) ∷ []))
 
+-- `var p = A(x)`
+abbrev pub reads_only : Main
+reads_only = item (declared (codes "A")) (over_elements Cell (reads_field 1 (codes "p") ∷ []))
+
 -- `m += 1; A(m) = 1`, and `m -= 1; m += 1; for (y <- edges(m)) { }`: a target and a set's argument are walked, with their accesses
 abbrev pub scalar_as_target : Main
 scalar_as_target =

@@ -6,5 +6,5 @@ use Rattle.kernel_eval.proofs.laws.loops_go_on.Goals as goal
 
 pub returns : goal.returns
 returns c mesh names place test body =
-    loop_is place (in_block (body_meaning mesh names body)) (keeps_in_block turns_kept (keeps_body turns_kept mesh names body))
-    (truth_in mesh names test) (keeps_truth_in turns_kept mesh names test)
+    loop_is place (in_block (body_meaning mesh names body)) (keeps_in_block turns_kept (keeps_body turns_kept mesh names body (λ a t. tt {0})))
+    (truth_in mesh names test) (keeps_truth_in turns_kept mesh names test (λ a t. tt {0}))
