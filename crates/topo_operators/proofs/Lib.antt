@@ -1,4 +1,5 @@
 pub mod Along
 pub mod Pointing
+pub mod Results
 pub mod Swapped
 pub mod Turns
