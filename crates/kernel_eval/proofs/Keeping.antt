@@ -243,7 +243,7 @@ module _ {P : Access → Type 0} {R : Moment → Moment → Type 0} (k : IsKept 
         (keeps_then (keeps_meaning mesh names arg (λ a t. h a (inl t))) (λ w. keeps_operated sign place v w)))
         (λ u. keeps_behind mesh names u more (λ a t. h a (inr t)))
 
-  keeps_number_in : (mesh : MeshLists) (names : Names) (e : Expression) → Only (λ a. Touches names a e) → Keeps R (number_in mesh names e)
+  pub keeps_number_in : (mesh : MeshLists) (names : Names) (e : Expression) → Only (λ a. Touches names a e) → Keeps R (number_in mesh names e)
   keeps_number_in mesh names e h = keeps_then (keeps_meaning mesh names e h) (λ v. keeps_number_of v)
 
   pub keeps_truth_in : (mesh : MeshLists) (names : Names) (e : Expression) → Only (λ a. Touches names a e) → Keeps R (truth_in mesh names e)

@@ -1,4 +1,5 @@
 pub mod Accessing
+pub mod Doing
 pub mod Keeping
 pub mod KeptLaws
 pub mod Loops

@@ -1,87 +1,88 @@
 -- A loop is its test, a turn, its body, and itself again: the number that bounds it never shows, for no step raises the turns.
-use Rattle.std.proofs.Common.{◌≡◌, ℕ, zero, suc, ◌≤◌, Bool, true, false, refl, sym, arith}
+use Rattle.std.proofs.Common.{◌≡◌, ℕ, zero, suc, ◌≤◌, Bool, true, false, refl, sym, ap, ◌∙◌, arith}
 use Rattle.std.specs.Prelude.{Result, Ok, Err}
-use Rattle.liszt_base.specs.declared.answers.Place.{Place}
-use Rattle.liszt_base.specs.declared.answers.TrapKind.TheVariants.{Spent}
-use Rattle.kernel_eval.specs.Kept.{Keeps, HasNoMoreTurns, loop_once}
-use Rattle.kernel_eval.specs.Meaning.{moment_turns, traps}
-use Rattle.kernel_eval.specs.Outcomes.{Stop, Outcome, go_on, and_then, either, does_nothing, taking_a_turn, loop_within, loop}
-use Rattle.kernel_eval.specs.States.{Moment, with_state}
+use Rattle.kernel_eval.specs.Kept.{Keeps, loop_once}
+use Rattle.kernel_eval.specs.Outcomes.{Stop, Outcome, go_on, and_then, either, does_nothing, Turns, taking_a_turn, loop_within, loop}
 
-abbrev Step : Type 0
-Step = Moment → Outcome Moment (Unit {0})
+module _ {S : Type 0} (turns : Turns S) (left_is : (n : ℕ) (s : S) → turns.left (turns.leave n s) ≡ n) where
+  abbrev Step : Type 0
+  Step = S → Outcome S (Unit {0})
 
-same_next : {A : Type 0} (next other : A → Step) (s : Moment) (answer : Result A Stop) → ((a : A) → next a s ≡ other a s)
-    → go_on next s answer ≡ go_on other s answer
-same_next next other s (Ok a) h = h a
-same_next next other s (Err stop) h = refl
+  abbrev Fewer : S → S → Type 0
+  Fewer s after = turns.left after ≤ turns.left s
 
-same_choice : (this other : Step) (s : Moment) → this s ≡ other s → (b : Bool) → either b this does_nothing s ≡ either b other does_nothing s
-same_choice this other s e true = e
-same_choice this other s e false = refl
+  same_next : {A : Type 0} (next other : A → Step) (s : S) (answer : Result A Stop) → ((a : A) → next a s ≡ other a s)
+      → go_on next s answer ≡ go_on other s answer
+  same_next next other s (Ok a) h = h a
+  same_next next other s (Err stop) h = refl
 
-module _ (place : Place) (body : Step) (bodies : Keeps HasNoMoreTurns body) where
-  abbrev taking : ℕ → Step
-  taking left s = taking_a_turn moment_turns (traps Spent place) body left s
+  same_choice : (this other : Step) (s : S) → this s ≡ other s → (b : Bool) → either b this does_nothing s ≡ either b other does_nothing s
+  same_choice this other s e true = e
+  same_choice this other s e false = refl
 
-  abbrev turn_and : Step → Step
-  turn_and again s = and_then (λ s. taking s.state.turns s) (λ done. again) s
+  -- `spent` stops
+  module _ (spent : Step) (body : Step) (test : S → Outcome S Bool) (stops : (again : Step) (s : S) → and_then spent (λ done. again) s ≡ spent s)
+      (bodies : Keeps Fewer body) (tests : Keeps Fewer test) where
+    abbrev taking : ℕ → Step
+    taking left s = taking_a_turn turns spent body left s
 
-  none_left : (s t : Moment) → t.state.turns ≤ s.state.turns → s.state.turns ≤ 0 → t.state.turns ≤ 0
-  none_left s t fewer none = omega (arith, fewer, none)
+    abbrev turn_and : Step → Step
+    turn_and again s = and_then (λ s. taking (turns.left s) s) (λ done. again) s
 
-  -- behind a turn there are fewer; where there is none it traps
-  turn_then : (again other : Step) (left : ℕ) (s : Moment) → ((u : Moment) → suc u.state.turns ≤ left → again u ≡ other u)
-      → go_on (λ done. again) (taking left s).after (taking left s).answer ≡ go_on (λ done. other) (taking left s).after (taking left s).answer
-  turn_then again other zero s h = refl
-  turn_then again other (suc n) s h =
-      let fewer : (body (with_state (record s.state { turns = n }) s)).after.state.turns ≤ n = bodies.kept _ in
-      same_next (λ done. again) (λ done. other) _ (body (with_state (record s.state { turns = n }) s)).answer (λ done. h _ (omega (arith, fewer)))
+    fewer : (s : S) → turns.left (test s).after ≤ turns.left s
+    fewer s = tests.kept s
 
-  no_turn : (again : Step) (left : ℕ) (s : Moment) → left ≤ 0
-      → go_on (λ done. again) (taking left s).after (taking left s).answer ≡ traps Spent place s
-  no_turn again zero s h = refl
-  no_turn again (suc n) s h = absurd (omega (arith, h))
+    less : (n : ℕ) (s : S) → turns.left (body (turns.leave n s)).after ≤ n
+    less n s = omega (arith, bodies.kept (turns.leave n s), left_is n s)
 
-  module _ (test : Moment → Outcome Moment Bool) (tests : Keeps HasNoMoreTurns test) where
-    abbrev within : ℕ → Step
-    within bound = loop_within moment_turns (traps Spent place) test body bound
+    none_left : (s : S) → turns.left s ≤ 0 → turns.left (test s).after ≤ 0
+    none_left s none = omega (arith, fewer s, none)
+
+    -- behind a turn there are fewer; where there is none it is spent
+    turn_then : (again other : Step) (left : ℕ) (s : S) → ((u : S) → suc (turns.left u) ≤ left → again u ≡ other u)
+        → go_on (λ done. again) (taking left s).after (taking left s).answer ≡ go_on (λ done. other) (taking left s).after (taking left s).answer
+    turn_then again other zero s h = stops again s ∙ sym (stops other s)
+    turn_then again other (suc n) s h =
+        same_next (λ done. again) (λ done. other) (body (turns.leave n s)).after (body (turns.leave n s)).answer
+          (λ done. h (body (turns.leave n s)).after (omega (arith, less n s)))
+
+    no_turn : (again : Step) (left : ℕ) (s : S) → left ≤ 0 → go_on (λ done. again) (taking left s).after (taking left s).answer ≡ spent s
+    no_turn again zero s h = stops again s
+    no_turn again (suc n) s h = absurd (omega (arith, h))
 
     -- behind the test
-    same_test : (this other : Step) (s : Moment) → this (test s).after ≡ other (test s).after
+    same_test : (this other : Step) (s : S) → this (test s).after ≡ other (test s).after
         → and_then test (λ b. either b this does_nothing) s ≡ and_then test (λ b. either b other does_nothing) s
     same_test this other s e =
         same_next (λ b. either b this does_nothing) (λ b. either b other does_nothing) (test s).after (test s).answer
-        (same_choice this other (test s).after e)
+          (same_choice this other (test s).after e)
 
-    fewer : (s : Moment) → (test s).after.state.turns ≤ s.state.turns
-    fewer s = tests.kept s
+    abbrev within : ℕ → Step
+    within bound = loop_within turns spent test body bound
+
+    spent_or : (again : Step) (s : S) → turns.left s ≤ 0
+        → and_then test (λ b. either b spent does_nothing) s ≡ and_then test (λ b. either b (turn_and again) does_nothing) s
+    spent_or again s none = same_test spent (turn_and again) s (sym (no_turn again (turns.left (test s).after) (test s).after (none_left s none)))
 
     -- two bounds that are the turns or more come to the same
-    stable : (n m : ℕ) (s : Moment) → s.state.turns ≤ n → s.state.turns ≤ m → within n s ≡ within m s
+    stable : (n m : ℕ) (s : S) → turns.left s ≤ n → turns.left s ≤ m → within n s ≡ within m s
     stable zero zero s h g = refl
-    stable zero (suc m) s h g =
-        same_test (traps Spent place) (turn_and (within m)) s
-        (sym (no_turn (within m) (test s).after.state.turns (test s).after (none_left s (test s).after (fewer s) h)))
-    stable (suc n) zero s h g =
-        same_test (turn_and (within n)) (traps Spent place) s
-        (no_turn (within n) (test s).after.state.turns (test s).after (none_left s (test s).after (fewer s) g))
+    stable zero (suc m) s h g = spent_or (within m) s h
+    stable (suc n) zero s h g = sym (spent_or (within n) s g)
     stable (suc n) (suc m) s h g =
         same_test (turn_and (within n)) (turn_and (within m)) s
-        (turn_then (within n) (within m) (test s).after.state.turns (test s).after
-        (λ u less. stable n m u (omega (arith, less, fewer s, h)) (omega (arith, less, fewer s, g))))
+          (turn_then (within n) (within m) (turns.left (test s).after) (test s).after
+            (λ u few. stable n m u (omega (arith, few, fewer s, h)) (omega (arith, few, fewer s, g))))
 
     abbrev again : Step
-    again = loop moment_turns (traps Spent place) test body
+    again = loop turns spent test body
 
-    from_turns : (n : ℕ) (s : Moment) → s.state.turns ≡ n → within n s ≡ loop_once moment_turns (traps Spent place) test body again s
-    from_turns zero s e =
-        same_test (traps Spent place) (turn_and again) s
-        (sym (no_turn again (test s).after.state.turns (test s).after (none_left s (test s).after (fewer s) (omega (arith, e)))))
+    from_turns : (n : ℕ) (s : S) → turns.left s ≡ n → within n s ≡ loop_once turns spent test body again s
+    from_turns zero s e = spent_or again s (omega (arith, e))
     from_turns (suc n) s e =
         same_test (turn_and (within n)) (turn_and again) s
-        (turn_then (within n) again (test s).after.state.turns (test s).after
-        (λ u less. stable n u.state.turns u (omega (arith, less, fewer s, e)) (omega arith)))
+          (turn_then (within n) again (turns.left (test s).after) (test s).after
+            (λ u few. stable n (turns.left u) u (omega (arith, few, fewer s, e)) (omega arith)))
 
-    pub loop_is : (s : Moment) → again s ≡ loop_once moment_turns (traps Spent place) test body again s
-    loop_is s = from_turns s.state.turns s refl
+    pub loop_is : (s : S) → again s ≡ loop_once turns spent test body again s
+    loop_is s = from_turns (turns.left s) s refl

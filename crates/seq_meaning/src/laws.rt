@@ -1,17 +1,33 @@
 //! Laws of the definitions, each the contract of a function that does nothing.
 
-ghost use Rattle.std.specs.Prelude.{◌≡◌, ℕ};
+ghost use Rattle.std.specs.Prelude.{◌≡◌, ◌≤◌, ℕ};
 ghost use Rattle.liszt_base.specs.MeshLists.{MeshLists};
-ghost use Rattle.phase_types.specs.Names.{Comprehension};
+ghost use Rattle.liszt_base.specs.declared.answers.Place.{Place};
+ghost use Rattle.liszt_base.specs.declared.answers.TrapKind.TheVariants.{Spent};
+ghost use Rattle.liszt_tree.specs.Tree.{Expression, Main, MainWhile};
+ghost use Rattle.kernel_eval.specs.Meaning.{traps};
+ghost use Rattle.phase_types.specs.Names.{Comprehension, Here, into_block, next_scope};
 ghost use Rattle.phase_types.specs.Typed.{ComprehensionFits};
 ghost use Rattle.phase_types.specs.Walk.{OfField, mode_in};
-ghost use Rattle.kernel_eval.specs.Kept.{ChangesNothing, field_values};
+ghost use Rattle.kernel_eval.specs.Kept.{ChangesNothing, field_values, loop_once};
 ghost use Rattle.kernel_eval.specs.States.{State};
-ghost use Rattle.seq_meaning.specs.Runs.{comprehension};
+ghost use Rattle.seq_meaning.specs.Runs.{Progress, comprehension, in_program, in_scope, item_meaning, main_meaning, program_turns, truth_here};
 
 /// A comprehension changes no field that it doesn't write or reduce, and takes none of the main program's turns.
 pub fn comprehensions_keep_the_rest()
     ensures fields { (mesh : MeshLists) (c : Comprehension) (turns : ℕ) (s : State) (field : ℕ) → ComprehensionFits c
         → ChangesNothing (mode_in c (OfField field)) → field_values (comprehension mesh c turns s).after field ≡ field_values s field }
     ensures turns { (mesh : MeshLists) (c : Comprehension) (turns : ℕ) (s : State) → (comprehension mesh c turns s).after.turns ≡ s.turns }
+{}
+
+/// The turns of the main program never rise, and its `while` is its test, and where that is true a turn, its block, and then the same `while` again;
+/// where no turn is left it traps. So turns alone bound it.
+pub fn main_loops_go_on()
+    ensures turns { (mesh : MeshLists) (turns : ℕ) (here : Here) (program : Main) (p : Progress)
+        → (main_meaning mesh turns here program p).after.state.turns ≤ p.state.turns }
+    ensures once_more { (mesh : MeshLists) (turns : ℕ) (here : Here) (place : Place) (test : Expression) (body : Main) (p : Progress)
+        → item_meaning mesh turns here (MainWhile place test body) p
+        ≡ loop_once program_turns (in_program (traps Spent place)) (truth_here mesh here test)
+        (in_scope (next_scope here) (main_meaning mesh turns (into_block here) body))
+        (item_meaning mesh turns here (MainWhile place test body)) p }
 {}

@@ -1,4 +1,6 @@
-use Rattle.kernel_eval.specs.Meaning.{body_meaning, in_block, truth_in}
+use Rattle.std.proofs.Common.{refl}
+use Rattle.liszt_base.specs.declared.answers.TrapKind.TheVariants.{Spent}
+use Rattle.kernel_eval.specs.Meaning.{body_meaning, in_block, moment_turns, traps, truth_in}
 use Rattle.kernel_eval.proofs.Keeping.{keeps_body, keeps_in_block, keeps_truth_in}
 use Rattle.kernel_eval.proofs.KeptLaws.{turns_kept}
 use Rattle.kernel_eval.proofs.Loops.{loop_is}
@@ -6,5 +8,5 @@ use Rattle.kernel_eval.proofs.laws.loops_go_on.Goals as goal
 
 pub returns : goal.returns
 returns c mesh names place test body =
-    loop_is place (in_block (body_meaning mesh names body)) (keeps_in_block turns_kept (keeps_body turns_kept mesh names body (λ a t. tt {0})))
-    (truth_in mesh names test) (keeps_truth_in turns_kept mesh names test (λ a t. tt {0}))
+    loop_is moment_turns (λ n m. refl) (traps Spent place) (in_block (body_meaning mesh names body)) (truth_in mesh names test) (λ again m. refl)
+      (keeps_in_block turns_kept (keeps_body turns_kept mesh names body (λ a t. tt {0}))) (keeps_truth_in turns_kept mesh names test (λ a t. tt {0}))
