@@ -1,6 +1,6 @@
 -- What every meaning keeps because each of its single changes does: one induction over expressions, statements and bodies. A change of a
 -- field or a scalar has to keep it only for what the body accesses.
-use Rattle.std.proofs.Common.{◌≡◌, ◌⊎◌, ℕ, zero, suc, Bool, true, false, List, [], ◌∷◌, refl, inl, inr}
+use Rattle.std.proofs.Common.{◌≡◌, ◌⊎◌, ℕ, suc, List, refl, inl, inr}
 use Rattle.std.specs.Prelude.{Option, Some, None, ℤ, Result, Ok, Err, ◌&&◌, int_le, pos, int_div, int_rem, ◌+ℤ◌, ◌-ℤ◌, ◌*ℤ◌, neg_ℤ}
 use Rattle.liszt_base.specs.MeshLists.{MeshLists}
 use Rattle.liszt_base.specs.declared.accesses.Mode.{Mode}
@@ -22,7 +22,8 @@ use Rattle.topo_operators.specs.Operators.{towards, members}
 use Rattle.phase_types.specs.Names.{Names, Named, FieldName, ScalarName, named}
 use Rattle.phase_types.specs.Walk.{Subject, OfField, OfScalar, mode_by}
 use Rattle.kernel_eval.specs.Kept.{Keeps}
-use Rattle.kernel_eval.specs.Outcomes.{Stop, Outcome, gives, go_on, and_then, either, each, does_nothing, changes, taking_a_turn, loop_within, loop}
+use Rattle.kernel_eval.proofs.Doing.{LeadsOn, keeps_then, keeps_either, keeps_each, keeps_loop}
+use Rattle.kernel_eval.specs.Outcomes.{Stop, Outcome, gives, go_on, changes}
 use Rattle.kernel_eval.specs.States.{Moment, value_in, with_value, with_fields, with_scalar_value, scalar_value, with_local, with_local_value, with_element, with_act, with_state, out_of_block, local_named, element_named}
 use Rattle.kernel_eval.specs.Meaning.{Value, NumberValue, TruthValue, ElementValue, number_of, truth_of, element_of, fitting, divided, operated, is_decided, negated, denied, compared, id_at, call_of, scalar_read, global_read, name_read, read_spot, field_read, spot_of, held, is_in_range, meaning, meaning_behind, number_in, truth_in, element_in, operand, assigned, spot_assigned, field_assigned, folds_of, scalar_assigned, global_assigned, name_assigned, in_block, moment_turns, each_member, statement_meaning, body_meaning, traps}
 
@@ -87,45 +88,8 @@ module _ {P : Access → Type 0} {R : Moment → Moment → Type 0} (k : IsKept 
   abbrev Only : (Access → Type 0) → Type 0
   Only Touched = (a : Access) → Touched a → P a
 
-  -- doing one thing after the other
-  keeps_go_on : {A B : Type 0} {next : A → Moment → Outcome Moment B} → ((a : A) → Keeps R (next a)) → (before s : Moment) → R before s
-      → (answer : Result A Stop) → R before (go_on next s answer).after
-  keeps_go_on h before s r (Ok a) = k.later before s _ r ((h a).kept s)
-  keeps_go_on h before s r (Err stop) = r
-
-  pub keeps_then : {A B : Type 0} {first : Moment → Outcome Moment A} {next : A → Moment → Outcome Moment B} → Keeps R first
-      → ((a : A) → Keeps R (next a)) → Keeps R (and_then first next)
-  keeps_then {first = first} f h = record { kept = λ m. keeps_go_on h m (first m).after (f.kept m) (first m).answer }
-
-  keeps_either : {A : Type 0} {this other : Moment → Outcome Moment A} (b : Bool) → Keeps R this → Keeps R other → Keeps R (either b this other)
-  keeps_either true f g = f
-  keeps_either false f g = g
-
-  keeps_each : {X : Type 0} {doing : X → Moment → Outcome Moment (Unit {0})} → ((x : X) → Keeps R (doing x)) → (xs : List X) → Keeps R (each doing xs)
-  keeps_each h [] = record { kept = k.same }
-  keeps_each h (x ∷ xs) = keeps_then (h x) (λ done. keeps_each h xs)
-
-  does_nothing_keeps : Keeps R (does_nothing {S = Moment})
-  does_nothing_keeps = record { kept = k.same }
-
-  keeps_turn : {spent body : Moment → Outcome Moment (Unit {0})} → Keeps R spent → Keeps R body
-      → (left : ℕ) (m : Moment) → m.state.turns ≡ left → R m (taking_a_turn moment_turns spent body left m).after
-  keeps_turn f g zero m e = f.kept m
-  keeps_turn f g (suc n) m e = k.later m _ _ (k.turn n m e) (g.kept _)
-
-  turn_keeps : {spent body : Moment → Outcome Moment (Unit {0})} → Keeps R spent → Keeps R body
-      → Keeps R (λ m. taking_a_turn moment_turns spent body (moment_turns.left m) m)
-  turn_keeps f g = record { kept = λ m. keeps_turn f g m.state.turns m refl }
-
-  keeps_within : {spent body : Moment → Outcome Moment (Unit {0})} {test : Moment → Outcome Moment Bool}
-      → Keeps R spent → Keeps R test → Keeps R body → (bound : ℕ) → Keeps R (loop_within moment_turns spent test body bound)
-  keeps_within f h g zero = keeps_then h (λ goes_on. keeps_either goes_on f does_nothing_keeps)
-  keeps_within f h g (suc n) =
-      keeps_then h (λ goes_on. keeps_either goes_on (keeps_then (turn_keeps f g) (λ done. keeps_within f h g n)) does_nothing_keeps)
-
-  keeps_loop : {spent body : Moment → Outcome Moment (Unit {0})} {test : Moment → Outcome Moment Bool}
-      → Keeps R spent → Keeps R test → Keeps R body → Keeps R (loop moment_turns spent test body)
-  keeps_loop f h g = record { kept = λ m. (keeps_within f h g m.state.turns).kept m }
+  leads : LeadsOn R
+  leads = record { same = k.same; later = k.later }
 
   -- single steps of expressions
   keeps_number_of : (v : Value) → Keeps R (number_of v)
@@ -219,38 +183,38 @@ module _ {P : Access → Type 0} {R : Moment → Moment → Type 0} (k : IsKept 
     keeps_meaning mesh names (Name place name) h =
         record { kept = λ m. (keeps_name_read (local_named m name) (element_named m name) (named names name)).kept m }
     keeps_meaning mesh names (Field place name arg) h =
-        keeps_then (keeps_meaning mesh names arg (λ a t. h a (inl t)))
-        (λ v. keeps_then (keeps_element_of v) (λ x. keeps_field_read mesh place (named names name) x (λ a t. h a (inr t))))
+        keeps_then leads (keeps_meaning mesh names arg (λ a t. h a (inl t)))
+        (λ v. keeps_then leads (keeps_element_of v) (λ x. keeps_field_read mesh place (named names name) x (λ a t. h a (inr t))))
     keeps_meaning mesh names (Call place fun arg) h =
-        keeps_then (keeps_meaning mesh names arg h) (λ v. keeps_then (keeps_element_of v) (λ x. keeps_call mesh place fun x))
+        keeps_then leads (keeps_meaning mesh names arg h) (λ v. keeps_then leads (keeps_element_of v) (λ x. keeps_call mesh place fun x))
     keeps_meaning mesh names (Towards place arg to) h =
-        keeps_then (keeps_meaning mesh names arg (λ a t. h a (inl t))) (λ v. keeps_then (keeps_element_of v)
-        (λ x. keeps_then (keeps_meaning mesh names to (λ a t. h a (inr t)))
-        (λ w. keeps_then (keeps_element_of w) (λ y. value_keeps (ElementValue (towards mesh x y))))))
-    keeps_meaning mesh names (Neg place arg) h = keeps_then (keeps_meaning mesh names arg h) (λ v. keeps_negated place v)
-    keeps_meaning mesh names (Not place arg) h = keeps_then (keeps_meaning mesh names arg h) (λ v. keeps_denied v)
+        keeps_then leads (keeps_meaning mesh names arg (λ a t. h a (inl t))) (λ v. keeps_then leads (keeps_element_of v)
+        (λ x. keeps_then leads (keeps_meaning mesh names to (λ a t. h a (inr t)))
+        (λ w. keeps_then leads (keeps_element_of w) (λ y. value_keeps (ElementValue (towards mesh x y))))))
+    keeps_meaning mesh names (Neg place arg) h = keeps_then leads (keeps_meaning mesh names arg h) (λ v. keeps_negated place v)
+    keeps_meaning mesh names (Not place arg) h = keeps_then leads (keeps_meaning mesh names arg h) (λ v. keeps_denied v)
     keeps_meaning mesh names (Chain level first links) h =
-        keeps_then (keeps_meaning mesh names first (λ a t. h a (inl t))) (λ v. keeps_behind mesh names v links (λ a t. h a (inr t)))
+        keeps_then leads (keeps_meaning mesh names first (λ a t. h a (inl t))) (λ v. keeps_behind mesh names v links (λ a t. h a (inr t)))
     keeps_meaning mesh names (Compare place rel left right) h =
-        keeps_then (keeps_meaning mesh names left (λ a t. h a (inl t)))
-        (λ v. keeps_then (keeps_meaning mesh names right (λ a t. h a (inr t))) (λ w. keeps_compared rel v w))
+        keeps_then leads (keeps_meaning mesh names left (λ a t. h a (inl t)))
+        (λ v. keeps_then leads (keeps_meaning mesh names right (λ a t. h a (inr t))) (λ w. keeps_compared rel v w))
 
     keeps_behind : (mesh : MeshLists) (names : Names) (v : Value) (links : Links) → Only (λ a. TouchesBehind names a links)
         → Keeps R (meaning_behind mesh names v links)
     keeps_behind mesh names v no_links h = record { kept = k.same }
     keeps_behind mesh names v (link sign place arg more) h =
-        keeps_then (keeps_either (is_decided sign v) (value_keeps v)
-        (keeps_then (keeps_meaning mesh names arg (λ a t. h a (inl t))) (λ w. keeps_operated sign place v w)))
+        keeps_then leads (keeps_either (is_decided sign v) (value_keeps v)
+        (keeps_then leads (keeps_meaning mesh names arg (λ a t. h a (inl t))) (λ w. keeps_operated sign place v w)))
         (λ u. keeps_behind mesh names u more (λ a t. h a (inr t)))
 
   pub keeps_number_in : (mesh : MeshLists) (names : Names) (e : Expression) → Only (λ a. Touches names a e) → Keeps R (number_in mesh names e)
-  keeps_number_in mesh names e h = keeps_then (keeps_meaning mesh names e h) (λ v. keeps_number_of v)
+  keeps_number_in mesh names e h = keeps_then leads (keeps_meaning mesh names e h) (λ v. keeps_number_of v)
 
   pub keeps_truth_in : (mesh : MeshLists) (names : Names) (e : Expression) → Only (λ a. Touches names a e) → Keeps R (truth_in mesh names e)
-  keeps_truth_in mesh names e h = keeps_then (keeps_meaning mesh names e h) (λ v. keeps_truth_of v)
+  keeps_truth_in mesh names e h = keeps_then leads (keeps_meaning mesh names e h) (λ v. keeps_truth_of v)
 
   keeps_element_in : (mesh : MeshLists) (names : Names) (e : Expression) → Only (λ a. Touches names a e) → Keeps R (element_in mesh names e)
-  keeps_element_in mesh names e h = keeps_then (keeps_meaning mesh names e h) (λ v. keeps_element_of v)
+  keeps_element_in mesh names e h = keeps_then leads (keeps_meaning mesh names e h) (λ v. keeps_element_of v)
 
   -- single steps of statements
   keeps_spot : (spot : Spot) (how : How) (n : ℤ) (m : Moment) (value : Option ℤ) → P (OfField spot.field, mode_by how)
@@ -299,7 +263,7 @@ module _ {P : Access → Type 0} {R : Moment → Moment → Type 0} (k : IsKept 
 
   keeps_members : (mesh : MeshLists) (place : Place) {body : Option Elem → Moment → Outcome Moment (Unit {0})} → ((x : Option Elem) → Keeps R (body x))
       → (set : Elem → List Elem) (x : Option Elem) → Keeps R (each_member mesh place body set x)
-  keeps_members mesh place h set (Some x) = keeps_each (λ member. keeps_in_block (h (Some member))) (set x)
+  keeps_members mesh place h set (Some x) = keeps_each leads (λ member. keeps_in_block (h (Some member))) (set x)
   keeps_members mesh place h set None = record { kept = k.same }
 
   spent_keeps : (place : Place) → Keeps R (traps {A = Unit {0}} Spent place)
@@ -309,26 +273,26 @@ module _ {P : Access → Type 0} {R : Moment → Moment → Type 0} (k : IsKept 
   mutual
     pub keeps_statement : (mesh : MeshLists) (names : Names) (s : Statement) → Only (λ a. StatementTouches names a s)
         → Keeps R (statement_meaning mesh names s)
-    keeps_statement mesh names (Var place name at init) h = keeps_then (keeps_number_in mesh names init h) (λ n. local_keeps name n)
-    keeps_statement mesh names (Val place name at init) h = keeps_then (keeps_element_in mesh names init h) (λ x. element_keeps name x)
+    keeps_statement mesh names (Var place name at init) h = keeps_then leads (keeps_number_in mesh names init h) (λ n. local_keeps name n)
+    keeps_statement mesh names (Val place name at init) h = keeps_then leads (keeps_element_in mesh names init h) (λ x. element_keeps name x)
     keeps_statement mesh names (Assign place name (Some target) how set_to) h =
-        keeps_then (keeps_number_in mesh names set_to (λ a t. h a (inr t)))
-        (λ n. keeps_then (keeps_element_in mesh names target (λ a t. h a (inl (inl t))))
+        keeps_then leads (keeps_number_in mesh names set_to (λ a t. h a (inr t)))
+        (λ n. keeps_then leads (keeps_element_in mesh names target (λ a t. h a (inl (inl t))))
         (λ x. keeps_field_assigned place how (named names name) n x (λ a t. h a (inl (inr t)))))
     keeps_statement mesh names (Assign place name None how set_to) h =
-        keeps_then (keeps_number_in mesh names set_to (λ a t. h a (inr t))) (λ n. local_assigned_keeps names name how n (λ a t. h a (inl t)))
+        keeps_then leads (keeps_number_in mesh names set_to (λ a t. h a (inr t))) (λ n. local_assigned_keeps names name how n (λ a t. h a (inl t)))
     keeps_statement mesh names (If place test first second has_else) h =
-        keeps_then (keeps_truth_in mesh names test (λ a t. h a (inl (inl t))))
+        keeps_then leads (keeps_truth_in mesh names test (λ a t. h a (inl (inl t))))
         (λ b. keeps_either b (keeps_in_block (keeps_body mesh names first (λ a t. h a (inl (inr t)))))
         (keeps_in_block (keeps_body mesh names second (λ a t. h a (inr t)))))
     keeps_statement mesh names (While place test body) h =
-        keeps_loop (spent_keeps place) (keeps_truth_in mesh names test (λ a t. h a (inl t)))
+        keeps_loop leads moment_turns k.turn (spent_keeps place) (keeps_truth_in mesh names test (λ a t. h a (inl t)))
         (keeps_in_block (keeps_body mesh names body (λ a t. h a (inr t))))
     keeps_statement mesh names (For place name at set set_at arg body) h =
-        keeps_then (keeps_element_in mesh names arg (λ a t. h a (inl t))) (λ x. keeps_members mesh set_at
-        (λ member. keeps_then (element_keeps name member) (λ done. keeps_body mesh names body (λ a t. h a (inr t)))) (members mesh set) x)
+        keeps_then leads (keeps_element_in mesh names arg (λ a t. h a (inl t))) (λ x. keeps_members mesh set_at
+        (λ member. keeps_then leads (element_keeps name member) (λ done. keeps_body mesh names body (λ a t. h a (inr t)))) (members mesh set) x)
 
     pub keeps_body : (mesh : MeshLists) (names : Names) (body : Body) → Only (λ a. BodyTouches names a body) → Keeps R (body_meaning mesh names body)
     keeps_body mesh names no_statement h = record { kept = k.same }
     keeps_body mesh names (statement s more) h =
-        keeps_then (keeps_statement mesh names s (λ a t. h a (inl t))) (λ done. keeps_body mesh names more (λ a t. h a (inr t)))
+        keeps_then leads (keeps_statement mesh names s (λ a t. h a (inl t))) (λ done. keeps_body mesh names more (λ a t. h a (inr t)))

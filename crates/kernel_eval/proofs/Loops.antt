@@ -1,5 +1,5 @@
 -- A loop is its test, a turn, its body, and itself again: the number that bounds it never shows, for no step raises the turns.
-use Rattle.std.proofs.Common.{◌≡◌, ℕ, zero, suc, ◌≤◌, Bool, true, false, refl, sym, ap, ◌∙◌, arith}
+use Rattle.std.proofs.Common.{◌≡◌, ℕ, zero, suc, ◌≤◌, Bool, true, false, refl, sym, ◌∙◌, arith}
 use Rattle.std.specs.Prelude.{Result, Ok, Err}
 use Rattle.kernel_eval.specs.Kept.{Keeps, loop_once}
 use Rattle.kernel_eval.specs.Outcomes.{Stop, Outcome, go_on, and_then, either, does_nothing, Turns, taking_a_turn, loop_within, loop}
@@ -44,7 +44,7 @@ module _ {S : Type 0} (turns : Turns S) (left_is : (n : ℕ) (s : S) → turns.l
     turn_then again other zero s h = stops again s ∙ sym (stops other s)
     turn_then again other (suc n) s h =
         same_next (λ done. again) (λ done. other) (body (turns.leave n s)).after (body (turns.leave n s)).answer
-          (λ done. h (body (turns.leave n s)).after (omega (arith, less n s)))
+        (λ done. h (body (turns.leave n s)).after (omega (arith, less n s)))
 
     no_turn : (again : Step) (left : ℕ) (s : S) → left ≤ 0 → go_on (λ done. again) (taking left s).after (taking left s).answer ≡ spent s
     no_turn again zero s h = stops again s
@@ -55,7 +55,7 @@ module _ {S : Type 0} (turns : Turns S) (left_is : (n : ℕ) (s : S) → turns.l
         → and_then test (λ b. either b this does_nothing) s ≡ and_then test (λ b. either b other does_nothing) s
     same_test this other s e =
         same_next (λ b. either b this does_nothing) (λ b. either b other does_nothing) (test s).after (test s).answer
-          (same_choice this other (test s).after e)
+        (same_choice this other (test s).after e)
 
     abbrev within : ℕ → Step
     within bound = loop_within turns spent test body bound
@@ -71,8 +71,8 @@ module _ {S : Type 0} (turns : Turns S) (left_is : (n : ℕ) (s : S) → turns.l
     stable (suc n) zero s h g = sym (spent_or (within n) s g)
     stable (suc n) (suc m) s h g =
         same_test (turn_and (within n)) (turn_and (within m)) s
-          (turn_then (within n) (within m) (turns.left (test s).after) (test s).after
-            (λ u few. stable n m u (omega (arith, few, fewer s, h)) (omega (arith, few, fewer s, g))))
+        (turn_then (within n) (within m) (turns.left (test s).after) (test s).after
+        (λ u few. stable n m u (omega (arith, few, fewer s, h)) (omega (arith, few, fewer s, g))))
 
     abbrev again : Step
     again = loop turns spent test body
@@ -81,8 +81,8 @@ module _ {S : Type 0} (turns : Turns S) (left_is : (n : ℕ) (s : S) → turns.l
     from_turns zero s e = spent_or again s (omega (arith, e))
     from_turns (suc n) s e =
         same_test (turn_and (within n)) (turn_and again) s
-          (turn_then (within n) again (turns.left (test s).after) (test s).after
-            (λ u few. stable n (turns.left u) u (omega (arith, few, fewer s, e)) (omega arith)))
+        (turn_then (within n) again (turns.left (test s).after) (test s).after
+        (λ u few. stable n (turns.left u) u (omega (arith, few, fewer s, e)) (omega arith)))
 
     pub loop_is : (s : S) → again s ≡ loop_once turns spent test body again s
     loop_is s = from_turns (turns.left s) s refl

@@ -1,6 +1,6 @@
 -- Whatever the main program does, its turns never rise.
-use Rattle.std.proofs.Common.{◌≡◌, ℕ, suc, ◌≤◌, ◌^◌, nat_lt, length, ◌++◌, [], ◌∷◌, refl, ap, arith}
-use Rattle.std.specs.Prelude.{Bool, Option, Some, None, ℤ, Result, Ok, Err}
+use Rattle.std.proofs.Common.{◌≡◌, ℕ, suc, ◌≤◌, ◌^◌, nat_lt, length, ◌++◌, [], ◌∷◌, refl, arith}
+use Rattle.std.specs.Prelude.{Option, Some, None, ℤ, Result, Ok, Err}
 use Rattle.liszt_base.specs.MeshLists.{MeshLists}
 use Rattle.liszt_base.specs.declared.answers.Place.{Place}
 use Rattle.liszt_base.specs.declared.answers.TrapKind.{TrapKind}
@@ -8,7 +8,7 @@ use Rattle.liszt_base.specs.declared.answers.TrapKind.TheVariants.{Prints, Spent
 use Rattle.liszt_tree.specs.declared.tree.How.{How}
 use Rattle.liszt_tree.specs.Tree.{Expression, MainItem, MainField, MainVar, MainAssign, MainIf, MainWhile, MainFor, Print, Main, no_item, item}
 use Rattle.mesh_topology.specs.Elements.{count, numbers}
-use Rattle.phase_types.specs.Names.{Named, FieldName, ScalarName, LocalName, ElementName, named, Comprehension, Here, next_field, next_scalar, next_scope, next_comprehension, comprehension_at, into_block, out_of_block, is_block, behind_item, behind_main}
+use Rattle.phase_types.specs.Names.{Named, ScalarName, named, Comprehension, Here, next_field, next_scalar, next_scope, next_comprehension, comprehension_at, into_block, is_block, behind_item}
 use Rattle.kernel_eval.specs.Kept.{HasNoMoreTurns, Keeps}
 use Rattle.kernel_eval.specs.Meaning.{assigned, no_meaning, traps}
 use Rattle.kernel_eval.specs.Outcomes.{Stop, Outcome}
@@ -57,13 +57,13 @@ name_keeps how n _ = no_meaning_keeps
 
 printed_keeps : (place : Place) (n : ℤ) → Keeps Fewer (printed place n)
 printed_keeps place n = record {
-  kept = λ p. (keeps_either (nat_lt (length p.state.prints) (2 ^ 16)) (changed (λ s. record s { prints = s.prints ++ n ∷ [] }) (λ s. refl)) (traps_keep Prints place)).kept p
+  kept = λ p. (keeps_either (nat_lt (length p.state.prints) (2 ^ 16)) (changed (λ s. record s { prints = s.prints ++ n ∷ [] }) (λ s. refl)) (traps_keep Prints place)).kept p;
 }
 
 pub scope_keeps : {block : Progress → Outcome Progress (Unit {0})} (number : ℕ) → Keeps Fewer block → Keeps Fewer (in_scope number block)
 scope_keeps number h = record {
   kept = λ p. (keeps_then leads (keeps_then leads (keeps_then leads (meets_keeps (ScopeOpened number)) (λ done. h)) (λ done. changed (out_of_scope p.state) (λ s. refl)))
-    (λ done. meets_keeps (ScopeClosed number))).kept p
+      (λ done. meets_keeps (ScopeClosed number))).kept p;
 }
 
 -- a comprehension takes no turns of the main program
@@ -73,8 +73,11 @@ whole_keeps before after (Err stop) e = refl
 
 comprehension_keeps : (mesh : MeshLists) (c : Comprehension) (turns : ℕ) → Keeps Fewer (on_state (all_or_nothing (comprehension mesh c turns)))
 comprehension_keeps mesh c turns = record {
-  kept = λ p. omega (arith, whole_keeps p.state (comprehension mesh c turns p.state).after (comprehension mesh c turns p.state).answer
-    (each_stays (λ s. s.turns) (behind_iteration mesh c turns) (λ id s. refl) (numbers 0 (count mesh c.over)) p.state))
+  kept = λ p. omega (
+    arith,
+    whole_keeps p.state (comprehension mesh c turns p.state).after (comprehension mesh c turns p.state).answer
+        (each_stays (λ s. s.turns) (behind_iteration mesh c turns) (λ id s. refl) (numbers 0 (count mesh c.over)) p.state),
+  );
 }
 
 turn_taken : (n : ℕ) (p : Progress) → p.state.turns ≡ suc n → Fewer p (record p { state = record p.state { turns = n } })
@@ -85,17 +88,17 @@ mutual
   item_keeps : (mesh : MeshLists) (turns : ℕ) (here : Here) (i : MainItem) → Keeps Fewer (item_meaning mesh turns here i)
   item_keeps mesh turns here (MainField place name at kind init) =
       keeps_then leads (number_keeps mesh here init) (λ n. keeps_then leads (changed (with_field (next_field here) (count mesh kind) n) (λ s. refl))
-        (λ done. meets_keeps (FieldDeclared (next_field here) n)))
+      (λ done. meets_keeps (FieldDeclared (next_field here) n)))
   item_keeps mesh turns here (MainVar place name at init) =
       keeps_then leads (number_keeps mesh here init) (λ n. changed (with_scalar (next_scalar here) n) (λ s. refl))
   item_keeps mesh turns here (MainAssign place name how value) =
       keeps_then leads (number_keeps mesh here value) (λ n. name_keeps how n (named here.names name))
   item_keeps mesh turns here (MainIf place test first second has_else) =
       keeps_then leads (truth_keeps mesh here test) (λ b. keeps_either b (scope_keeps (next_scope here) (main_keeps mesh turns (into_block here) first))
-        (keeps_either (is_block second has_else) (scope_keeps _ (main_keeps mesh turns _ second)) (does_nothing_keeps leads)))
+      (keeps_either (is_block second has_else) (scope_keeps _ (main_keeps mesh turns _ second)) (does_nothing_keeps leads)))
   item_keeps mesh turns here (MainWhile place test body) =
       keeps_loop leads program_turns turn_taken (traps_keep Spent place) (truth_keeps mesh here test)
-        (scope_keeps (next_scope here) (main_keeps mesh turns (into_block here) body))
+      (scope_keeps (next_scope here) (main_keeps mesh turns (into_block here) body))
   item_keeps mesh turns here (MainFor place name at over body) =
       keeps_then leads (meets_keeps (ComprehensionMet (next_comprehension here))) (λ done. comprehension_keeps mesh (comprehension_at here name over body) turns)
   item_keeps mesh turns here (Print place value) = keeps_then leads (number_keeps mesh here value) (λ n. printed_keeps place n)

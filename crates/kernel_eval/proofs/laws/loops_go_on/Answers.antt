@@ -9,4 +9,4 @@ use Rattle.kernel_eval.proofs.laws.loops_go_on.Goals as goal
 pub returns : goal.returns
 returns c mesh names place test body =
     loop_is moment_turns (λ n m. refl) (traps Spent place) (in_block (body_meaning mesh names body)) (truth_in mesh names test) (λ again m. refl)
-      (keeps_in_block turns_kept (keeps_body turns_kept mesh names body (λ a t. tt {0}))) (keeps_truth_in turns_kept mesh names test (λ a t. tt {0}))
+    (keeps_in_block turns_kept (keeps_body turns_kept mesh names body (λ a t. tt {0}))) (keeps_truth_in turns_kept mesh names test (λ a t. tt {0}))

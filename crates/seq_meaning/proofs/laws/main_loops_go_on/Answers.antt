@@ -13,4 +13,4 @@ returns-clause-turns c mesh turns here program p = (main_keeps mesh turns here p
 pub returns-clause-once_more : goal.returns-clause-once_more
 returns-clause-once_more c mesh turns here place test body =
     loop_is program_turns (λ n p. refl) (in_program (traps Spent place)) (in_scope (next_scope here) (main_meaning mesh turns (into_block here) body))
-      (truth_here mesh here test) (λ again p. refl) (scope_keeps (next_scope here) (main_keeps mesh turns (into_block here) body)) (truth_keeps mesh here test)
+    (truth_here mesh here test) (λ again p. refl) (scope_keeps (next_scope here) (main_keeps mesh turns (into_block here) body)) (truth_keeps mesh here test)
