@@ -1,15 +1,14 @@
 -- What words and files come to is one outcome, and the top call's answer is it.
-use Rattle.std.proofs.Common.{◌≡◌, ℕ, inl, inr, List, length, Option, Some, None, Result, Ok, Err, MatchOption, Bool, true, false, nat_lt, refl, sym, ap, subst, ◌∙◌, arith, rules, ltb-false, ltb-true, ◌<◌, ◌⊎◌, ◌≤◌}
+use Rattle.std.proofs.Common.{◌≡◌, ℕ, inl, inr, List, length, Option, Some, None, Result, Ok, Err, MatchOption, Bool, true, false, nat_lt, refl, sym, ap, subst, ◌∙◌, arith, ltb-false, ltb-true}
 use Rattle.std.specs.Io.KnownBytes.{append_known}
 use Rattle.liszt_base.specs.declared.answers.Input.{Input}
 use Rattle.liszt_base.specs.declared.answers.Input.TheVariants.{Program, Node, Ele}
-use Rattle.liszt_base.specs.declared.answers.Place.{Place}
 use Rattle.liszt_base.specs.declared.answers.ProgramFault.{ProgramFault}
 use Rattle.liszt_lexer.specs.Lexer.{tokens_of, end_of}
 use Rattle.liszt_lexer.specs.declared.token.Token.{Token}
 use Rattle.liszt_tree.specs.Tree.{Main}
-use Rattle.liszt_parser.specs.Grammar.{Lexeme, lexemes, Derives}
-use Rattle.liszt_parser.specs.ParseFault.{IsParseFault, IsShallow}
+use Rattle.liszt_parser.specs.Grammar.{lexemes, Derives}
+use Rattle.liszt_parser.specs.ParseFault.{IsParseFault}
 use Rattle.liszt_parser.proofs.OneTree.{one_tree_derived}
 use Rattle.liszt_parser.proofs.OneFault.{one as one_fault}
 use Rattle.liszt_parser.proofs.SomeFault.{some_fault}

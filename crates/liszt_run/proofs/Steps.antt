@@ -1,5 +1,5 @@
 -- The steps by which the inputs are taken in, joined.
-use Rattle.std.proofs.Common.{◌≡◌, ℕ, ◌≤◌, inl, inr, List, [], ◌∷◌, length, Option, Some, None, MatchOption, MatchResult, Result, Ok, Err, ◌<◌, refl, sym, ap, subst, ◌∙◌, arith, ℤ, pos, ◌+ℤ◌, ◌≤ℤ◌, ◌<ℤ◌, ◌⊎◌}
+use Rattle.std.proofs.Common.{◌≡◌, ℕ, ◌≤◌, inl, inr, List, length, Option, Some, None, MatchOption, MatchResult, Result, Ok, Err, refl, sym, ap, subst, ◌∙◌, arith, ℤ, pos, ◌+ℤ◌, ◌≤ℤ◌, ◌⊎◌}
 use Rattle.std.specs.Prelude.{IfOk, FitsSigned}
 use Rattle.std.proofs.lemmas.Int.{ints, to_z-of_z}
 use mir.Syntax.{w64}
@@ -13,16 +13,15 @@ use Rattle.liszt_io.specs.declared.outside.WriteFault.{WriteFault as Unwritten}
 use Rattle.liszt_io.specs.Causes.{HasCause}
 use Rattle.liszt_io.specs.Sinks.{IsFrontTaken, Writes}
 use Rattle.liszt_io.specs.Shelves.{Files, Tally, FailsAt}
-use Rattle.liszt_tree.specs.declared.tree.Program.{Program as RustProgram}
-use Rattle.liszt_tree.specs.Tree.{Main, program_tree}
-use Rattle.liszt_run.specs.Simple.{Simple, IsSmall, IsSimple}
+use Rattle.liszt_tree.specs.Tree.{Main}
+use Rattle.liszt_run.specs.Simple.{Simple, IsSmall}
 use Rattle.liszt_run.specs.declared.ended.Ended.{Ended}
 use Rattle.liszt_run.specs.declared.ended.Ended.TheVariants.{Done, Usage, Later, Program as OfProgram, Mesh, Limit, ReadFault, WriteFault, NoMemory}
 use Rattle.liszt_run.specs.declared.job.Job.{Job}
 use Rattle.liszt_run.specs.Commands.{command_of, SeqCommand}
 use Rattle.liszt_run.specs.Endings.{refusal_text, done_text, field_text, too_long}
 use Rattle.liszt_run.specs.Expected.{Outcome, refusal, Within, ProgramTells, NodeTells, EleTells, TakesIn, Finishes, TakesCells, TakesPoints, Seq, ComesTo}
-use Rattle.liszt_run.specs.Answers.{IsLost, Answers, Wrote, HasCauses, HasShelfCause, HasStepCause, IsFileFault, StepGives, MakesJob, Prepares, job_text}
+use Rattle.liszt_run.specs.Answers.{IsLost, Answers, Wrote, HasCauses, HasShelfCause, HasStepCause, StepGives, MakesJob, Prepares, job_text}
 
 -- From the bytes of an input to what they come to
 

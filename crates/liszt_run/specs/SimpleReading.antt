@@ -1,6 +1,6 @@
 -- The simple programs as a function of the tree, step by step, as the reader goes: what it gives is what IsSimple says.
 -- Private functions' contracts cite it.
-use Rattle.std.specs.Prelude.{ℕ, ◌&&◌, not, nat_le, int_le, if◌then◌else◌, Bool, true, false, ℤ, Option, Some, None, List, length, pos, codes}
+use Rattle.std.specs.Prelude.{ℕ, ◌&&◌, not, nat_le, int_le, if◌then◌else◌, Bool, ℤ, Option, Some, None, List, length, pos, codes}
 use Rattle.std.specs.List.{list_any}
 use Rattle.std.specs.Str.{bytes_eq}
 use Rattle.liszt_base.specs.declared.elements.Kind.TheVariants.{Cell}

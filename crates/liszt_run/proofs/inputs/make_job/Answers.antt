@@ -1,8 +1,8 @@
 use Rattle.std.proofs.Common.{rules, ◌≡◌, ◌≤◌, length, subst, sym, ap, ◌∙◌}
 use Rattle.std.specs.Option.{option_map}
 use Rattle.liszt_tree.specs.Tree.{program_tree}
-use Rattle.liszt_run.specs.Simple.{Simple, IsSimple}
-use Rattle.liszt_run.proofs.Simples.{found, again}
+use Rattle.liszt_run.specs.Simple.{Simple}
+use Rattle.liszt_run.proofs.Simples.{found}
 use Rattle.liszt_run.proofs.Steps.{value_is, value_fits, job_text_is}
 use Rattle.liszt_run.proofs.inputs.make_job.Goals as goal
 

@@ -1,8 +1,7 @@
-use Rattle.std.proofs.Common.{ℕ, List, ap, subst, ◌∙◌}
-use Rattle.std.specs.Prelude.{Err}
+use Rattle.std.proofs.Common.{ℕ, List, subst, ◌∙◌}
 use Rattle.liszt_base.specs.declared.answers.Input.TheVariants.{Program}
 use Rattle.liszt_run.specs.Expected.{IsProgramFault, ProgramTells}
-use Rattle.liszt_run.specs.Answers.{ReadsProgram, TellsItself}
+use Rattle.liszt_run.specs.Answers.{TellsItself}
 use Rattle.liszt_run.proofs.Steps.{step_fault}
 use Rattle.liszt_run.proofs.inputs.take_program.Goals as goal
 

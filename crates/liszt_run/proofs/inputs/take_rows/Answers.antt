@@ -1,4 +1,4 @@
-use Rattle.std.proofs.Common.{refl, inl, sym, ap, ◌∙◌}
+use Rattle.std.proofs.Common.{ap, ◌∙◌}
 use Rattle.text_scan.specs.Rows.{text_rows}
 use Rattle.liszt_run.specs.Answers.{TellsItself, TellsRows}
 use Rattle.liszt_run.proofs.Steps.{step_value}

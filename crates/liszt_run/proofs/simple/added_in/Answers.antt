@@ -1,4 +1,4 @@
-use Rattle.std.proofs.Common.{ap, sym, ◌≡◌, length, ◌∙◌}
+use Rattle.std.proofs.Common.{ap, sym, length, ◌∙◌}
 use Rattle.liszt_run.proofs.Simples.{none_in}
 use Rattle.liszt_run.proofs.simple.added_in.Goals as goal
 

@@ -1,4 +1,4 @@
-use Rattle.std.proofs.Common.{ap, sym, ◌≡◌, length, ◌∙◌}
+use Rattle.std.proofs.Common.{ap, sym, length, ◌∙◌}
 use Rattle.liszt_run.proofs.Simples.{none_at}
 use Rattle.liszt_run.proofs.simple.simple_of.Goals as goal
 
