@@ -1,17 +1,19 @@
 -- How many edges and faces a mesh has at most.
-use Rattle.std.proofs.Common.{◌≡◌, ℕ, ◌*◌, ◌<◌, ◌≤◌, ◌^◌, List, [], ◌∷◌, ◌++◌, length, get_or, flat_map, refl, sym, ap, subst, ◌∙◌, inl, inr, arith, length-append, ltb-true, nat_lt}
-use Rattle.liszt_base.specs.Corners.{includes, IsMesh}
+use Rattle.std.proofs.Common.{◌≡◌, ℕ, ◌*◌, ◌<◌, ◌≤◌, ◌^◌, List, [], ◌∷◌, ◌++◌, length, map, get_or, flat_map, All, true, refl, sym, ap, subst, ◌∙◌, inl, inr, arith, length-append, ltb-true, nat_lt}
+use Rattle.std.proofs.lemmas.List.{get_or_default, length-map}
+use Rattle.liszt_base.specs.Corners.{includes, IsCell, IsMesh}
 use Rattle.liszt_base.specs.MeshLists.{MeshLists}
 use Rattle.liszt_base.specs.declared.elements.Kind.{Kind}
 use Rattle.liszt_base.specs.declared.elements.Kind.TheVariants.{Vertex, Edge, Face, Cell}
 use Rattle.mesh_topology.specs.Choices.{choices}
 use Rattle.mesh_topology.specs.Elements.{corner_lists, elements, count, corners, one_includes_other, is_incident, near, HasCorners}
 use Rattle.mesh_topology.specs.Tables.{near_all}
-use Rattle.mesh_topology.proofs.Sets.{Member, all_at, included, includes_by, member_parted, member_left, member_right, no_longer}
+use Rattle.mesh_topology.proofs.Sets.{Member, all_at, included, includes_by, member_at, member_mapped, member_parted, member_left, member_right, no_longer}
 use Rattle.mesh_topology.proofs.Rising.{Pairs, pairs_of, between_pairs, different, Before, not_before_itself}
 use Rattle.mesh_topology.proofs.Ranked.{ordered}
 use Rattle.mesh_topology.proofs.FaceEdges.{placed}
-use Rattle.mesh_topology.proofs.Near.{IsKept, kept_is, cell_is, cell_count, vertex_count, vertex_is, more_left, HasRow, AreRows, table_members}
+use Rattle.mesh_topology.proofs.Chosen.{Rises, is_choice}
+use Rattle.mesh_topology.proofs.Near.{IsKept, kept_is, rising_is, cell_is, cell_count, vertex_count, vertex_is, more_left, HasRow, AreRows, table_members}
 use Rattle.mesh_topology.proofs.Lowers.{near_all_long, near_all_at}
 
 -- a list parted at a member
@@ -134,3 +136,53 @@ fits mesh is points cells Vertex = subst (λ n. n < 2 ^ 32) (sym (vertex_count m
 fits mesh is points cells Edge = let e = few_edges mesh is in omega arith
 fits mesh is points cells Face = let e = few_faces mesh is in omega arith
 fits mesh is points cells Cell = let e = cell_count mesh in omega arith
+
+-- the elements of so many corners near a cell are no more than the choices of its row
+rows_few : (mesh : MeshLists) → IsMesh (length mesh.points) (corner_lists mesh) → (kind : Kind) (size n : ℕ) → HasCorners kind size → size < 4 → ((row : List ℕ) → length row ≡ 4 → length (choices size row) ≡ n)
+    → ((cell y : ℕ) → is_incident mesh Cell cell kind y ≡ one_includes_other (corners mesh Cell cell) (corners mesh kind y)) → All (λ row. length row ≤ n) (near_all mesh Cell kind)
+rows_few mesh is kind size n h less many test = each where
+  near_few : (cell : ℕ) → cell < count mesh Cell → length (near mesh Cell cell kind) ≤ n
+  near_few cell l =
+      let c = cell_is mesh is cell l in
+      let rows = near_all mesh Cell Vertex in
+      let are = near_rows mesh is in
+      let row = get_or rows cell [] in
+      let r = are.row cell l in
+      let k = kept_is (is_incident mesh Cell cell kind) (count mesh kind) in
+      let ids = near mesh Cell cell kind in
+      let sets = map (λ y. corners mesh kind y) ids in
+      let apart = before_different sets (pairs_before ids (λ y m. (k.inside y m).0) k.rises) in
+      let most = no_more sets (choices size row) apart (λ set m. chosen c r ids (λ y m. k.inside y m) set m) in
+      let long = many row (row_four mesh is rows are row (member_at rows cell [] (omega (arith, are.long)))) in
+      omega (arith, most, long, length-map ids (λ y. corners mesh kind y))
+    where
+      chosen : IsCell (length mesh.points) (corners mesh Cell cell) → HasRow (corners mesh Cell cell) (get_or (near_all mesh Cell Vertex) cell []) → (ids : List ℕ)
+          → ((y : ℕ) → Member y ids → (y < count mesh kind) × (is_incident mesh Cell cell kind y ≡ true)) → (set : List ℕ) → Member set (map (λ y. corners mesh kind y) ids)
+          → Member set (choices size (get_or (near_all mesh Cell Vertex) cell []))
+      chosen c r ids inside set m =
+          let t = member_mapped (λ y. corners mesh kind y) ids set m in
+          let i = inside t.0 t.1 in
+          let e = rising_is mesh kind size h t.0 i.0 in
+          let one = sym (more_left (corners mesh Cell cell) (corners mesh kind t.0) c.1 (omega (arith, c.0, e.size_is))) ∙ (sym (test cell t.0) ∙ i.1) in
+          let here = is_choice size (get_or (near_all mesh Cell Vertex) cell []) (corners mesh kind t.0) r.rises
+          (record { size_is = e.size_is; rises = e.rises; inside = λ x n. r.back x (included (corners mesh Cell cell) (corners mesh kind t.0) x one n) }) in
+          subst (λ s. Member s (choices size (get_or (near_all mesh Cell Vertex) cell []))) t.2 here
+
+      pairs_before : (ids : List ℕ) → ((y : ℕ) → Member y ids → y < count mesh kind) → Rises ids → Pairs Before (map (λ y. corners mesh kind y) ids)
+      pairs_before [] below up = tt
+      pairs_before (x ∷ ids) below up = (
+        λ set m. let t = member_mapped (λ y. corners mesh kind y) ids set m in subst (λ s. Before (corners mesh kind x) s) t.2 (ordered mesh kind size h x t.0 [] (up.0 t.0 t.1) (below t.0 (inr t.1))),
+        pairs_before ids (λ y m. below y (inr m)) up.1,
+      )
+
+  each : All (λ row. length row ≤ n) (near_all mesh Cell kind)
+  each cell d l =
+      let k : cell < count mesh Cell = subst (λ m. cell < m) (near_all_long mesh Cell kind) l in
+      let e : get_or (near_all mesh Cell kind) cell d ≡ near mesh Cell cell kind = get_or_default (near_all mesh Cell kind) cell d [] l ∙ near_all_at mesh Cell kind cell k in
+      subst (λ row. length row ≤ n) (sym e) (near_few cell k)
+
+pub few_edges_near : (mesh : MeshLists) → IsMesh (length mesh.points) (corner_lists mesh) → All (λ row. length row ≤ 6) (near_all mesh Cell Edge)
+few_edges_near mesh is = rows_few mesh is Edge 2 6 refl (omega arith) four_two (λ cell y. refl)
+
+pub few_faces_near : (mesh : MeshLists) → IsMesh (length mesh.points) (corner_lists mesh) → All (λ row. length row ≤ 4) (near_all mesh Cell Face)
+few_faces_near mesh is = rows_few mesh is Face 3 4 refl (omega arith) four_three (λ cell y. refl)

@@ -1,8 +1,9 @@
 -- Lists one behind the other in one buffer.
-use Rattle.std.proofs.Common.{◌≡◌, ℕ, zero, suc, ◌+◌, ◌-◌, ◌<◌, ◌≤◌, ◌⊎◌, List, [], ◌∷◌, ◌++◌, map, length, set, take, get_or, replicate, refl, sym, ap, subst, ◌∙◌, inl, inr, arith}
+use Rattle.std.proofs.Common.{◌≡◌, ℕ, zero, suc, ◌+◌, ◌-◌, ◌<◌, ◌≤◌, ◌⊎◌, List, [], ◌∷◌, ◌++◌, map, length, set, take, get_or, slice_get, Some, replicate, refl, sym, ap, subst, ◌∙◌, inl, inr, arith}
 use Rattle.std.specs.List.{between, range_with_len}
 use Rattle.std.proofs.lemmas.Bool.{cases_eq, cases_lt}
 use Rattle.std.proofs.lemmas.List.{ext_get_or, get_or-replicate, get_or-set_same, get_or-set_other, get_or-take, length-set, length-replicate, length-take-le, take_more}
+use Rattle.std.proofs.lemmas.Option.{slice_get-get_or}
 use Rattle.std.proofs.Math.Seq.{take-length}
 use Rattle.std.proofs.lemmas.List.Edits.{between_more, get_or-between, length-between}
 use Rattle.std.proofs.lemmas.List.FromFn.{get_or-map-range_with_len, length-map-range_with_len}
@@ -216,3 +217,22 @@ empty_with rooms starts ends items so is full = record {
       let k : i < length ends = omega (arith, rooms_long starts ends items) in
       let m : i < length rooms = omega (arith, long) in
       room_at starts ends items i k ∙ (let e = so.at i m in omega (arith, e))
+
+-- what is read of a list
+pub record IsRead (buckets : Filled) (starts ends items : List ℕ) (place : ℕ) : Type 0 where
+  pub below : place < length ends
+  pub begins : place < length starts
+  pub rises : get_or starts place 0 ≤ get_or ends place 0
+  pub inside : get_or ends place 0 ≤ length items
+  pub is : slice_get buckets.lists place ≡ Some (between (get_or starts place 0) (get_or ends place 0) items)
+
+pub list_read : (buckets : Filled) (starts ends items : List ℕ) (place : ℕ) → filled starts ends items ≡ buckets → AreApart starts ends (length items) → place < length buckets.lists → IsRead buckets starts ends items place
+list_read buckets starts ends items place is so below = record {
+  below = l;
+  begins = omega (arith, so.long, l);
+  rises = so.begins place l;
+  inside = part_inside starts ends items so place l;
+  is = slice_get-get_or buckets.lists place [] below ∙ ap Some (ap (λ b. get_or b.lists place []) (sym is) ∙ list_at starts ends items place l);
+} where
+  l : place < length ends
+  l = let m = subst (λ b. place < length b.lists) (sym is) below in omega (arith, m, lists_long starts ends items)

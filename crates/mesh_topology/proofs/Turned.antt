@@ -187,14 +187,28 @@ degrees_all rows count done degrees e so = ext_get_or 0 degrees (map (λ xs. len
 pub degrees_long : (rows : List (List ℕ)) (count : ℕ) → length (map (λ xs. length xs) (turned rows count)) ≡ count
 degrees_long rows count = length-map (turned rows count) (λ xs. length xs) ∙ turned_long rows count
 
+-- so many ids have room in each list
+abbrev pub CanHold : List (List ℕ) → ℕ → List ℕ → Type 0
+CanHold rows count rooms = (y : ℕ) → y < count → length (with rows y (length rows)) ≤ get_or rooms y 0
+
+pub holds_counted : (rows : List (List ℕ)) (count : ℕ) (rooms : List ℕ) → rooms ≡ map (λ xs. length xs) (turned rows count) → CanHold rows count rooms
+holds_counted rows count rooms is y l = let e = ap (λ xs. get_or xs y 0) is ∙ degree_at rows count y l in omega arith
+
+pub holds_most : (rows : List (List ℕ)) (count most : ℕ) (rooms : List ℕ) → rooms ≡ replicate count most → All (λ row. length row ≤ most) (turned rows count) → CanHold rows count rooms
+holds_most rows count most rooms is few y l =
+    let room = ap (λ xs. get_or xs y 0) is ∙ get_or-replicate count y most 0 l in
+    let long = ap (λ xs. length xs) (turned_at rows count y l) in
+    let here = few y [] (omega (arith, turned_long rows count)) in
+    omega arith
+
 -- the lists that a row names have room
-pub rooms_for : (rows : List (List ℕ)) (count id : ℕ) (row : List ℕ) (lists : List (List ℕ)) (rooms : List ℕ) → IsTurnedSoFar rows count id lists → rooms ≡ map (λ xs. length xs) (turned rows count)
+pub rooms_for : (rows : List (List ℕ)) (count id : ℕ) (row : List ℕ) (lists : List (List ℕ)) (rooms : List ℕ) → IsTurnedSoFar rows count id lists → CanHold rows count rooms
     → id < length rows → get_or rows id [] ≡ row → All (λ y. y < count) row → All (λ y. length (get_or lists y []) < get_or rooms y 0) row
-rooms_for rows count id row lists rooms so is l e below k d m =
+rooms_for rows count id row lists rooms so holds l e below k d m =
     let y = get_or row k d in
     let b : y < count = below k d m in
     let has : is_in (get_or rows id []) y ≡ true = subst (λ r. is_in r y ≡ true) (sym e) (member_in row y (member_at row k d m)) in
     let r = room_with rows y id l has in
     let f = ap (λ xs. length xs) (so.at y b) in
-    let g = ap (λ xs. get_or xs y 0) is ∙ degree_at rows count y b in
+    let g = holds y b in
     omega arith

@@ -37,11 +37,11 @@ pub record IsLower (mesh : MeshLists) (t : Lower) : Type 0 where
 -- the tables of the other elements near each element, and of those beside it
 pub record IsUpper (mesh : MeshLists) (t : Upper) : Type 0 where
   pub vertex_vertices : t.vertex_vertices ≡ near_all mesh Vertex Vertex
-  pub vertex_edges : t.vertex_edges ≡ near_all mesh Vertex Edge
-  pub vertex_faces : t.vertex_faces ≡ near_all mesh Vertex Face
-  pub edge_faces : t.edge_faces ≡ near_all mesh Edge Face
-  pub cell_edges : t.cell_edges ≡ near_all mesh Cell Edge
-  pub cell_faces : t.cell_faces ≡ near_all mesh Cell Face
+  pub vertex_edges : t.vertex_edges.lists ≡ near_all mesh Vertex Edge
+  pub vertex_faces : t.vertex_faces.lists ≡ near_all mesh Vertex Face
+  pub edge_faces : t.edge_faces.lists ≡ near_all mesh Edge Face
+  pub cell_edges : t.cell_edges.lists ≡ near_all mesh Cell Edge
+  pub cell_faces : t.cell_faces.lists ≡ near_all mesh Cell Face
   pub cell_cells : t.cell_cells ≡ near_all mesh Cell Cell
 
 -- all tables

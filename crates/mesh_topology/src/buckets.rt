@@ -1,6 +1,6 @@
 //! Lists of ids that grow in any order, one behind the other in one buffer.
 
-ghost use Rattle.std.specs.Prelude.{◌≡◌, ◌<◌, ◌^◌, [], ◌∷◌, ◌++◌, IfOk, length, replicate, slice_index, slice_index_or};
+ghost use Rattle.std.specs.Prelude.{◌≡◌, ◌<◌, ◌^◌, [], ◌∷◌, ◌++◌, IfOk, Some, length, slice_get, slice_index, slice_index_or};
 ghost use Rattle.std.specs.List.{slice_set};
 ghost use Rattle.mesh_topology.specs.Buckets.{AreStartsOf, IsEmptyWith};
 
@@ -79,5 +79,22 @@ impl Buckets {
             lists.push(&self.items[self.starts[i]..self.ends[i]])?;
         }
         Ok(lists)
+    }
+
+    /// How many lists there are.
+    pub fn len(&self) -> usize
+        ensures { result ≡ length self.now.lists }
+    {
+        self.ends.len()
+    }
+
+    /// A list by its place, from 0.
+    pub fn of(&self, place: usize) -> &[u32]
+        requires { place < length self.now.lists }
+        ensures { slice_get self.now.lists place ≡ Some result.now }
+    {
+        let start = self.starts[place];
+        let end = self.ends[place];
+        &self.items[start..end]
     }
 }

@@ -1,6 +1,6 @@
 //! Lists of ids for each element, turned round and joined.
 
-ghost use Rattle.std.specs.Prelude.{◌≡◌, ◌+◌, ◌<◌, ◌^◌, [], ◌∷◌, ◌++◌, IfOk, OnOk, map, length, slice_index, slice_index_or};
+ghost use Rattle.std.specs.Prelude.{◌≡◌, ◌+◌, ◌<◌, ◌≤◌, ◌^◌, [], ◌∷◌, ◌++◌, IfOk, OnOk, map, length, slice_index, slice_index_or};
 ghost use Rattle.std.specs.List.{All, AllPairs, filter};
 ghost use Rattle.mesh_topology.specs.Incidence.{turned, is_other, others_on, AreBeside, CanJoin, CanTurn, IsChanged, IsSetOf};
 
@@ -21,13 +21,17 @@ fn count_each(degrees: &mut [u32], row: &[u32])
 }
 
 /// For each of so many ids how many rows have it.
-fn degrees(alloc: Global, rows: &PlainLists<u32>, count: u32) -> Result<Vec<u32>, NoMemory>
+fn degrees<const N: usize>(
+    alloc: Global,
+    rows: &[[u32; N]],
+    count: u32,
+) -> Result<Vec<u32>, NoMemory>
     requires { CanTurn rows.now count }
     ensures { IfOk result (λ degrees. degrees.items ≡ map length (turned rows.now count)) }
 {
     let mut degrees = vec![in alloc; 0; count as usize]?;
-    for id in 0..rows.len() {
-        count_each(&mut degrees, rows.of(id));
+    for row in rows {
+        count_each(&mut degrees, row);
     }
     Ok(degrees)
 }
@@ -46,16 +50,39 @@ fn add_to_each(lists: &mut Buckets, row: &[u32], id: u32)
 }
 
 /// For each of so many ids the places of the rows that have it, ascending.
-pub fn turn(alloc: Global, rows: &PlainLists<u32>, count: u32) -> Result<PlainLists<u32>, NoMemory>
+pub fn turn<const N: usize>(
+    alloc: Global,
+    rows: &[[u32; N]],
+    count: u32,
+) -> Result<Buckets, NoMemory>
     requires { CanTurn rows.now count }
-    ensures { IfOk result (λ lists. lists ≡ turned rows.now count) }
+    ensures { IfOk result (λ lists. lists.lists ≡ turned rows.now count) }
 {
     let degrees = degrees(alloc, rows, count)?;
     let mut lists = Buckets::new(alloc, degrees.as_slice())?;
     for id in 0..rows.len() {
+        add_to_each(&mut lists, &rows[id], id as u32);
+    }
+    Ok(lists)
+}
+
+/// The same for lists, where no id is on more than so many.
+pub fn turn_lists(
+    alloc: Global,
+    rows: &PlainLists<u32>,
+    count: u32,
+    most: u32,
+) -> Result<Buckets, NoMemory>
+    requires can { CanTurn rows.now count }
+    requires few { All (λ row. length row ≤ most) (turned rows.now count) }
+    ensures { IfOk result (λ lists. lists.lists ≡ turned rows.now count) }
+{
+    let rooms = vec![in alloc; most; count as usize]?;
+    let mut lists = Buckets::new(alloc, rooms.as_slice())?;
+    for id in 0..rows.len() {
         add_to_each(&mut lists, rows.of(id), id as u32);
     }
-    lists.lists(alloc)
+    Ok(lists)
 }
 
 /// The rows as lists.
@@ -113,11 +140,11 @@ fn put_beside(
 /// For each id those on the lists of its list, but itself.
 pub fn all_beside(
     alloc: Global,
-    through: &PlainLists<u32>,
+    through: &Buckets,
     back: &PlainLists<u32>,
 ) -> Result<PlainLists<u32>, NoMemory>
-    requires { CanJoin through.now (length back.now) }
-    ensures { IfOk result (AreBeside through.now back.now (length through.now)) }
+    requires { CanJoin through.now.lists (length back.now) }
+    ensures { IfOk result (AreBeside through.now.lists back.now (length through.now.lists)) }
 {
     let mut all = PlainLists::new(alloc);
     let mut others = Vec::new(alloc);

@@ -5,7 +5,7 @@ ghost use Rattle.mesh_topology.specs.Tables.{AreSets, IsLower, IsSmallMesh};
 
 use crate::cells_of::{all_with, pairs_of};
 use crate::corner_sets::starts;
-use crate::incidence::{as_lists, turn};
+use crate::incidence::turn;
 use crate::tables::{cell_vertices, edges, face_edges, faces};
 use liszt_base::{NoMemory, PlainLists, RawMesh};
 use std::alloc::Global;
@@ -34,7 +34,8 @@ fn build_sets(alloc: Global, raw: &RawMesh) -> Result<CornerTables, NoMemory>
 {
     let cells = cell_vertices(alloc, raw.cells())?;
     let vertices = raw.points().len() as u32;
-    let vertex_cells = turn(alloc, &as_lists(alloc, cells.as_slice())?, vertices)?;
+    let turned = turn(alloc, cells.as_slice(), vertices)?;
+    let vertex_cells = turned.lists(alloc)?;
     let edges = edges(alloc, cells.as_slice(), &vertex_cells)?;
     let faces = faces(alloc, cells.as_slice(), &vertex_cells)?;
     Ok(CornerTables {

@@ -3,7 +3,8 @@
 ghost use Rattle.std.specs.Prelude.{IfOk};
 ghost use Rattle.mesh_topology.specs.Tables.{IsLower, IsSmallMesh, IsUpper};
 
-use crate::incidence::{all_beside, as_lists, turn};
+use crate::buckets::Buckets;
+use crate::incidence::{all_beside, as_lists, turn, turn_lists};
 use crate::lower::Lower;
 use liszt_base::{NoMemory, PlainLists, RawMesh};
 use std::alloc::Global;
@@ -13,11 +14,11 @@ use std::alloc::Global;
 #[derive(Drop)]
 pub struct Upper {
     pub vertex_vertices: PlainLists<u32>,
-    pub vertex_edges: PlainLists<u32>,
-    pub vertex_faces: PlainLists<u32>,
-    pub edge_faces: PlainLists<u32>,
-    pub cell_edges: PlainLists<u32>,
-    pub cell_faces: PlainLists<u32>,
+    pub vertex_edges: Buckets,
+    pub vertex_faces: Buckets,
+    pub edge_faces: Buckets,
+    pub cell_edges: Buckets,
+    pub cell_faces: Buckets,
     pub cell_cells: PlainLists<u32>,
 }
 
@@ -31,15 +32,11 @@ pub fn build_upper(alloc: Global, raw: &RawMesh, lower: &Lower) -> Result<Upper,
     let edges = lower.sets.edges.len() as u32;
     let cells = raw.cells().len() as u32;
     let ends = as_lists(alloc, lower.sets.edges.as_slice())?;
-    let vertex_edges = turn(alloc, &ends, vertices)?;
-    let vertex_faces = turn(
-        alloc,
-        &as_lists(alloc, lower.sets.faces.as_slice())?,
-        vertices,
-    )?;
-    let edge_faces = turn(alloc, &as_lists(alloc, lower.face_edges.as_slice())?, edges)?;
-    let cell_edges = turn(alloc, &lower.edge_cells, cells)?;
-    let cell_faces = turn(alloc, &lower.face_cells, cells)?;
+    let vertex_edges = turn(alloc, lower.sets.edges.as_slice(), vertices)?;
+    let vertex_faces = turn(alloc, lower.sets.faces.as_slice(), vertices)?;
+    let edge_faces = turn(alloc, lower.face_edges.as_slice(), edges)?;
+    let cell_edges = turn_lists(alloc, &lower.edge_cells, cells, 6)?;
+    let cell_faces = turn_lists(alloc, &lower.face_cells, cells, 4)?;
     let vertex_vertices = all_beside(alloc, &vertex_edges, &ends)?;
     let cell_cells = all_beside(alloc, &cell_faces, &lower.face_cells)?;
     Ok(Upper {

@@ -1,43 +1,40 @@
-use Rattle.std.proofs.Common.{◌≡◌, ◌<◌, ◌^◌, All, [], ◌∷◌, ◌++◌, ap, replicate, length, IfOk, subst, sym, ◌∙◌, arith}
-use Rattle.std.proofs.lemmas.Option.{get_or_from_slice_get}
+use Rattle.std.proofs.Common.{◌<◌, ◌^◌, [], ap, replicate, All, ◌++◌, ◌∷◌, length, subst, sym, ◌∙◌, arith}
+use Rattle.std.proofs.lemmas.List.{get_or_read}
 use Rattle.mesh_topology.specs.Incidence.{IsChanged}
-use Rattle.mesh_topology.proofs.Turned.{degrees_long, rooms_for, turned_more, turned_none, turned_all}
+use Rattle.mesh_topology.proofs.Turned.{degrees_long, holds_counted, rooms_for, turned_more, turned_none, turned_all}
 use Rattle.mesh_topology.proofs.incidence.turn.Goals as goal
 
 pub new-requires : goal.new-requires
-new-requires c =
+new-requires g c =
     let rows = c.args.rows.now in
     let e = ap (λ xs. length xs) (c.as_slice.ensures.value ∙ c.in_ok-degrees.ensures) ∙ degrees_long rows c.args.count in
     subst (λ n. n < 2 ^ 32) (sym e) c.ranges.count.fits
 
 pub loop-id-init : goal.loop-id-init
-loop-id-init c =
+loop-id-init g c =
     let rows = c.args.rows.now in
     let made = c.in_ok-lists.ensures in
     let e = ap (λ xs. length xs) (c.as_slice.ensures.value ∙ c.in_ok-degrees.ensures) ∙ degrees_long rows c.args.count in
     (turned_none rows c.args.count c.in_ok-lists.lists.lists (made.lists ∙ ap (λ n. replicate n []) e), made.rooms_are ∙ c.as_slice.ensures.value)
 
 pub add_to_each-requires-clause-room : goal.add_to_each-requires-clause-room
-add_to_each-requires-clause-room c =
+add_to_each-requires-clause-room g c =
     let rows = c.args.rows.now in
-    let row = c.of.result.now in
-    let is = get_or_from_slice_get rows c.loop-id.id row [] c.of.ensures in
-    let l : c.loop-id.id < length rows = omega (arith, c.len-id-end.ensures) in
-    rooms_for rows c.args.count c.loop-id.id row c.loop-id.lists.lists c.loop-id.lists.rooms c.loop-id.invariant.0 (c.loop-id.invariant.1 ∙ c.in_ok-degrees.ensures) l is
-    (subst (λ r. All (λ y. y < c.args.count) r) is (c.requires.below c.loop-id.id [] l))
+    let row = get_or_read rows c.loop-id.id c.index-rows-id.result c.loop-id-test.true c.index-rows-id.is [] in
+    rooms_for rows c.args.count c.loop-id.id c.index-rows-id.result c.loop-id.lists.lists c.loop-id.lists.rooms c.loop-id.invariant.0
+    (holds_counted rows c.args.count c.loop-id.lists.rooms (c.loop-id.invariant.1 ∙ c.in_ok-degrees.ensures)) c.loop-id-test.true (sym row)
+    (subst (λ r. All (λ y. y < c.args.count) r) (sym row) (c.requires.below c.loop-id.id [] c.loop-id-test.true))
 
 pub loop-id-preserved : goal.loop-id-preserved
-loop-id-preserved c =
+loop-id-preserved g c =
     let rows = c.args.rows.now in
-    let row = sym (get_or_from_slice_get rows c.loop-id.id c.of.result.now [] c.of.ensures) in
     let old = c.loop-id.lists.lists in
     let new = c.add_to_each.new.lists.lists in
+    let row = get_or_read rows c.loop-id.id c.index-rows-id.result c.loop-id-test.true c.index-rows-id.is [] in
     let added = subst (λ r. IsChanged [] (λ list. list ++ c.loop-id.id ∷ []) r old new) row c.add_to_each.ensures.lists in
     (turned_more rows c.args.count c.loop-id.id old new c.loop-id.invariant.0 added, c.add_to_each.ensures.rooms ∙ c.loop-id.invariant.1)
 
 pub returns : goal.returns
-returns c =
+returns g c =
     let rows = c.args.rows.now in
-    let e : c.loop-id.id ≡ length rows = omega (arith, c.loop-id.auto.id-end, c.len-id-end.ensures) in
-    let all = turned_all rows c.args.count c.loop-id.id c.loop-id.lists.lists e c.loop-id.invariant.0 in
-    subst (λ v. IfOk c.lists-2.result (λ lists. lists ≡ v)) all c.lists-2.ensures
+    turned_all rows c.args.count c.loop-id.id c.loop-id.lists.lists (omega (arith, c.loop-id.auto.id-end)) c.loop-id.invariant.0

@@ -1,4 +1,4 @@
-use Rattle.std.proofs.Common.{◌≡◌, ◌<◌, ◌^◌, length, refl, sym, subst, ◌∙◌, rules}
+use Rattle.std.proofs.Common.{◌≡◌, ◌<◌, ◌^◌, length, refl, sym, subst, ◌∙◌, arith, rules}
 use Rattle.std.specs.List.{AllZip}
 use Rattle.liszt_base.specs.declared.elements.Kind.TheVariants.{Vertex, Edge, Face, Cell}
 use Rattle.mesh_topology.specs.Choices.{IsAscending}
@@ -22,14 +22,14 @@ turn-requires c =
     let mesh = c.args.raw.now in
     let n = vertices_are mesh c.points.result.now c.points.ensures in
     let all = subst (λ cs. AllZip IsAscending cs c.in_ok-cells.cells.items) c.cells.ensures c.in_ok-cells.ensures in
-    can_turn mesh c.requires Cell Vertex c.in_ok-as_lists.field-0 (length c.points.result.now) (c.in_ok-as_lists.ensures ∙ (c.as_slice.ensures.value ∙ row_vertices mesh c.requires.is c.in_ok-cells.cells.items all)) n
+    (omega arith, can_turn mesh c.requires Cell Vertex c.as_slice.result.now (length c.points.result.now) (c.as_slice.ensures.value ∙ row_vertices mesh c.requires.is c.in_ok-cells.cells.items all) n)
 
 pub edges-requires : goal.edges-requires
 edges-requires c =
     let mesh = c.args.raw.now in
     let lists = c.in_ok-vertex_cells.vertex_cells in
     let n = vertices_are mesh c.points.result.now c.points.ensures in
-    let each = cells_of_vertices mesh c.requires c.cells.result.now c.in_ok-cells.cells.items c.in_ok-as_lists.field-0 lists (length c.points.result.now) c.cells.ensures c.in_ok-cells.ensures (c.in_ok-as_lists.ensures ∙ c.as_slice.ensures.value) n c.in_ok-vertex_cells.ensures in
+    let each = cells_of_vertices mesh c.requires c.cells.result.now c.in_ok-cells.cells.items c.as_slice.result.now lists (length c.points.result.now) c.cells.ensures c.in_ok-cells.ensures c.as_slice.ensures.value n (c.in_ok-vertex_cells.ensures ∙ c.in_ok-turned.ensures) in
     subst (λ rows. AreCellsOfEach rows lists) (sym c.as_slice-2.ensures.value) each
 
 pub faces-requires : goal.faces-requires
@@ -37,7 +37,7 @@ faces-requires c =
     let mesh = c.args.raw.now in
     let lists = c.in_ok-vertex_cells.vertex_cells in
     let n = vertices_are mesh c.points.result.now c.points.ensures in
-    let each = cells_of_vertices mesh c.requires c.cells.result.now c.in_ok-cells.cells.items c.in_ok-as_lists.field-0 lists (length c.points.result.now) c.cells.ensures c.in_ok-cells.ensures (c.in_ok-as_lists.ensures ∙ c.as_slice.ensures.value) n c.in_ok-vertex_cells.ensures in
+    let each = cells_of_vertices mesh c.requires c.cells.result.now c.in_ok-cells.cells.items c.as_slice.result.now lists (length c.points.result.now) c.cells.ensures c.in_ok-cells.ensures c.as_slice.ensures.value n (c.in_ok-vertex_cells.ensures ∙ c.in_ok-turned.ensures) in
     subst (λ rows. AreCellsOfEach rows lists) (sym c.as_slice-3.ensures.value) each
 
 pub returns : goal.returns
@@ -47,10 +47,10 @@ returns c =
     let rows = c.in_ok-cells.cells.items in
     let all = c.in_ok-cells.ensures in
     let n = vertices_are mesh c.points.result.now c.points.ensures in
-    let near = c.in_ok-as_lists.ensures ∙ (c.as_slice.ensures.value ∙ row_vertices mesh c.requires.is rows (subst (λ cs. AllZip IsAscending cs rows) c.cells.ensures all)) in
+    let near = c.as_slice.ensures.value ∙ row_vertices mesh c.requires.is rows (subst (λ cs. AllZip IsAscending cs rows) c.cells.ensures all) in
     record {
       edges = elements_are mesh c.requires Edge 2 refl cells rows c.as_slice-2.result.now c.in_ok-edges.edges.items c.cells.ensures all c.as_slice-2.ensures.value c.in_ok-edges.ensures;
       faces = elements_are mesh c.requires Face 3 refl cells rows c.as_slice-3.result.now c.in_ok-faces.faces.items c.cells.ensures all c.as_slice-3.ensures.value c.in_ok-faces.ensures;
       cells = subst (λ cs. AllZip IsAscending cs rows) c.cells.ensures all;
-      vertex_cells = c.in_ok-vertex_cells.ensures ∙ turned_near mesh Cell Vertex (either_cell_vertex mesh) c.in_ok-as_lists.field-0 (length c.points.result.now) near n;
+      vertex_cells = c.in_ok-vertex_cells.ensures ∙ (c.in_ok-turned.ensures ∙ turned_near mesh Cell Vertex (either_cell_vertex mesh) c.as_slice.result.now (length c.points.result.now) near n);
     }

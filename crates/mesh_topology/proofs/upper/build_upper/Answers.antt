@@ -1,7 +1,8 @@
-use Rattle.std.proofs.Common.{◌≡◌, ◌<◌, ◌^◌, length, ap, sym, subst, ◌∙◌, arith, rules}
+use Rattle.std.proofs.Common.{◌≡◌, ◌<◌, ◌≤◌, ◌^◌, All, length, ap, sym, subst, ◌∙◌, arith, rules}
 use Rattle.liszt_base.specs.declared.elements.Kind.TheVariants.{Vertex, Edge, Face, Cell}
 use Rattle.mesh_topology.specs.Elements.{count}
 use Rattle.mesh_topology.proofs.Near.{cell_count, vertices_are}
+use Rattle.mesh_topology.proofs.Few.{few_edges_near, few_faces_near}
 use Rattle.mesh_topology.proofs.Lowers.{edge_vertices, face_vertices}
 use Rattle.mesh_topology.proofs.Uppers.{turned_near, can_turn, can_join, either_edge_vertex, either_face_vertex, either_face_edge, either_cell_edge, either_cell_face, vertices_beside, cells_beside}
 use Rattle.mesh_topology.proofs.upper.build_upper.Goals as goal
@@ -31,61 +32,76 @@ overflow_cast-cells c =
 pub turn-requires : goal.turn-requires
 turn-requires c =
     let mesh = c.args.raw.now in
-    let points : length c.points.result.now ≡ count mesh Vertex = vertices_are mesh c.points.result.now c.points.ensures in
-    can_turn mesh c.requires.small Edge Vertex c.in_ok-ends.ends (length c.points.result.now) (c.in_ok-ends.ensures ∙ (c.as_slice.ensures.value ∙ (c.requires.lower.sets.edges ∙ edge_vertices mesh))) points
+    let points = vertices_are mesh c.points.result.now c.points.ensures in
+    (omega arith, can_turn mesh c.requires.small Edge Vertex c.as_slice-2.result.now (length c.points.result.now) (c.as_slice-2.ensures.value ∙ (c.requires.lower.sets.edges ∙ edge_vertices mesh)) points)
 
 pub turn-requires-2 : goal.turn-requires-2
 turn-requires-2 c =
     let mesh = c.args.raw.now in
-    let points : length c.points.result.now ≡ count mesh Vertex = vertices_are mesh c.points.result.now c.points.ensures in
-    can_turn mesh c.requires.small Face Vertex c.in_ok-as_lists.field-0 (length c.points.result.now) (c.in_ok-as_lists.ensures ∙ (c.as_slice-2.ensures.value ∙ (c.requires.lower.sets.faces ∙ face_vertices mesh))) points
+    let points = vertices_are mesh c.points.result.now c.points.ensures in
+    (omega arith, can_turn mesh c.requires.small Face Vertex c.as_slice-3.result.now (length c.points.result.now) (c.as_slice-3.ensures.value ∙ (c.requires.lower.sets.faces ∙ face_vertices mesh)) points)
 
 pub turn-requires-3 : goal.turn-requires-3
 turn-requires-3 c =
     let mesh = c.args.raw.now in
     let e = ap (λ t. length t) c.requires.lower.sets.edges in
     let edges : c.len-edges.result ≡ count mesh Edge = omega (arith, c.args.lower.now.sets.edges.ok.0) in
-    can_turn mesh c.requires.small Face Edge c.in_ok-as_lists-2.field-0 c.len-edges.result (c.in_ok-as_lists-2.ensures ∙ (c.as_slice-3.ensures.value ∙ c.requires.lower.face_edges)) edges
+    (omega arith, can_turn mesh c.requires.small Face Edge c.as_slice-4.result.now c.len-edges.result (c.as_slice-4.ensures.value ∙ c.requires.lower.face_edges) edges)
 
-pub turn-requires-4 : goal.turn-requires-4
-turn-requires-4 c =
+pub turn_lists-requires-clause-can : goal.turn_lists-requires-clause-can
+turn_lists-requires-clause-can c =
     let mesh = c.args.raw.now in
-    let cells : length c.cells.result.now ≡ count mesh Cell = ap (λ cs. length cs) c.cells.ensures ∙ sym (cell_count mesh) in
+    let cells = ap (λ cs. length cs) c.cells.ensures ∙ sym (cell_count mesh) in
     can_turn mesh c.requires.small Edge Cell c.args.lower.now.edge_cells (length c.cells.result.now) c.requires.lower.edge_cells cells
 
-pub turn-requires-5 : goal.turn-requires-5
-turn-requires-5 c =
+pub turn_lists-requires-clause-few : goal.turn_lists-requires-clause-few
+turn_lists-requires-clause-few c =
     let mesh = c.args.raw.now in
-    let cells : length c.cells.result.now ≡ count mesh Cell = ap (λ cs. length cs) c.cells.ensures ∙ sym (cell_count mesh) in
+    let cells = ap (λ cs. length cs) c.cells.ensures ∙ sym (cell_count mesh) in
+    let is = turned_near mesh Edge Cell (λ x y. sym (either_cell_edge mesh y x)) c.args.lower.now.edge_cells (length c.cells.result.now) c.requires.lower.edge_cells cells in
+    subst (λ t. All (λ row. length row ≤ 6) t) (sym is) (few_edges_near mesh c.requires.small.is)
+
+pub turn_lists-requires-2-clause-can : goal.turn_lists-requires-2-clause-can
+turn_lists-requires-2-clause-can c =
+    let mesh = c.args.raw.now in
+    let cells = ap (λ cs. length cs) c.cells.ensures ∙ sym (cell_count mesh) in
     can_turn mesh c.requires.small Face Cell c.args.lower.now.face_cells (length c.cells.result.now) c.requires.lower.face_cells cells
+
+pub turn_lists-requires-2-clause-few : goal.turn_lists-requires-2-clause-few
+turn_lists-requires-2-clause-few c =
+    let mesh = c.args.raw.now in
+    let cells = ap (λ cs. length cs) c.cells.ensures ∙ sym (cell_count mesh) in
+    let is = turned_near mesh Face Cell (λ x y. sym (either_cell_face mesh y x)) c.args.lower.now.face_cells (length c.cells.result.now) c.requires.lower.face_cells cells in
+    subst (λ t. All (λ row. length row ≤ 4) t) (sym is) (few_faces_near mesh c.requires.small.is)
 
 pub all_beside-requires : goal.all_beside-requires
 all_beside-requires c =
     let mesh = c.args.raw.now in
-    let points : length c.points.result.now ≡ count mesh Vertex = vertices_are mesh c.points.result.now c.points.ensures in
-    can_join mesh c.requires.small Vertex Edge c.in_ok-vertex_edges.vertex_edges c.in_ok-ends.ends (c.in_ok-vertex_edges.ensures ∙ turned_near mesh Edge Vertex (either_edge_vertex mesh) c.in_ok-ends.ends (length c.points.result.now) (c.in_ok-ends.ensures ∙ (c.as_slice.ensures.value ∙ (c.requires.lower.sets.edges ∙ edge_vertices mesh))) points) (c.in_ok-ends.ensures ∙ (c.as_slice.ensures.value ∙ (c.requires.lower.sets.edges ∙ edge_vertices mesh)))
+    let points = vertices_are mesh c.points.result.now c.points.ensures in
+    let edges = c.as_slice-2.ensures.value ∙ (c.requires.lower.sets.edges ∙ edge_vertices mesh) in
+    can_join mesh c.requires.small Vertex Edge c.in_ok-vertex_edges.vertex_edges.lists c.in_ok-ends.ends (c.in_ok-vertex_edges.ensures ∙ turned_near mesh Edge Vertex (either_edge_vertex mesh) c.as_slice-2.result.now (length c.points.result.now) edges points) (c.in_ok-ends.ensures ∙ (c.as_slice.ensures.value ∙ (c.requires.lower.sets.edges ∙ edge_vertices mesh)))
 
 pub all_beside-requires-2 : goal.all_beside-requires-2
 all_beside-requires-2 c =
     let mesh = c.args.raw.now in
-    let cells : length c.cells.result.now ≡ count mesh Cell = ap (λ cs. length cs) c.cells.ensures ∙ sym (cell_count mesh) in
-    can_join mesh c.requires.small Cell Face c.in_ok-cell_faces.cell_faces c.args.lower.now.face_cells (c.in_ok-cell_faces.ensures ∙ turned_near mesh Face Cell (λ x y. sym (either_cell_face mesh y x)) c.args.lower.now.face_cells (length c.cells.result.now) c.requires.lower.face_cells cells) c.requires.lower.face_cells
+    let cells = ap (λ cs. length cs) c.cells.ensures ∙ sym (cell_count mesh) in
+    can_join mesh c.requires.small Cell Face c.in_ok-cell_faces.cell_faces.lists c.args.lower.now.face_cells (c.in_ok-cell_faces.ensures ∙ turned_near mesh Face Cell (λ x y. sym (either_cell_face mesh y x)) c.args.lower.now.face_cells (length c.cells.result.now) c.requires.lower.face_cells cells) c.requires.lower.face_cells
 
 pub returns : goal.returns
 returns c =
     let mesh = c.args.raw.now in
-    let points : length c.points.result.now ≡ count mesh Vertex = vertices_are mesh c.points.result.now c.points.ensures in
+    let points = vertices_are mesh c.points.result.now c.points.ensures in
     let e = ap (λ t. length t) c.requires.lower.sets.edges in
     let edges : c.len-edges.result ≡ count mesh Edge = omega (arith, c.args.lower.now.sets.edges.ok.0) in
-    let cells : length c.cells.result.now ≡ count mesh Cell = ap (λ cs. length cs) c.cells.ensures ∙ sym (cell_count mesh) in
-    let vertex_edges = c.in_ok-vertex_edges.ensures ∙ turned_near mesh Edge Vertex (either_edge_vertex mesh) c.in_ok-ends.ends (length c.points.result.now) (c.in_ok-ends.ensures ∙ (c.as_slice.ensures.value ∙ (c.requires.lower.sets.edges ∙ edge_vertices mesh))) points in
+    let cells = ap (λ cs. length cs) c.cells.ensures ∙ sym (cell_count mesh) in
+    let vertex_edges = c.in_ok-vertex_edges.ensures ∙ turned_near mesh Edge Vertex (either_edge_vertex mesh) c.as_slice-2.result.now (length c.points.result.now) (c.as_slice-2.ensures.value ∙ (c.requires.lower.sets.edges ∙ edge_vertices mesh)) points in
     let cell_faces = c.in_ok-cell_faces.ensures ∙ turned_near mesh Face Cell (λ x y. sym (either_cell_face mesh y x)) c.args.lower.now.face_cells (length c.cells.result.now) c.requires.lower.face_cells cells in
     record {
-      vertex_vertices = vertices_beside mesh c.in_ok-vertex_edges.vertex_edges c.in_ok-ends.ends c.in_ok-vertex_vertices.vertex_vertices vertex_edges (c.in_ok-ends.ensures ∙ (c.as_slice.ensures.value ∙ (c.requires.lower.sets.edges ∙ edge_vertices mesh))) c.in_ok-vertex_vertices.ensures;
+      vertex_vertices = vertices_beside mesh c.in_ok-vertex_edges.vertex_edges.lists c.in_ok-ends.ends c.in_ok-vertex_vertices.vertex_vertices vertex_edges (c.in_ok-ends.ensures ∙ (c.as_slice.ensures.value ∙ (c.requires.lower.sets.edges ∙ edge_vertices mesh))) c.in_ok-vertex_vertices.ensures;
       vertex_edges = vertex_edges;
-      vertex_faces = c.in_ok-vertex_faces.ensures ∙ turned_near mesh Face Vertex (either_face_vertex mesh) c.in_ok-as_lists.field-0 (length c.points.result.now) (c.in_ok-as_lists.ensures ∙ (c.as_slice-2.ensures.value ∙ (c.requires.lower.sets.faces ∙ face_vertices mesh))) points;
-      edge_faces = c.in_ok-edge_faces.ensures ∙ turned_near mesh Face Edge (either_face_edge mesh) c.in_ok-as_lists-2.field-0 c.len-edges.result (c.in_ok-as_lists-2.ensures ∙ (c.as_slice-3.ensures.value ∙ c.requires.lower.face_edges)) edges;
+      vertex_faces = c.in_ok-vertex_faces.ensures ∙ turned_near mesh Face Vertex (either_face_vertex mesh) c.as_slice-3.result.now (length c.points.result.now) (c.as_slice-3.ensures.value ∙ (c.requires.lower.sets.faces ∙ face_vertices mesh)) points;
+      edge_faces = c.in_ok-edge_faces.ensures ∙ turned_near mesh Face Edge (either_face_edge mesh) c.as_slice-4.result.now c.len-edges.result (c.as_slice-4.ensures.value ∙ c.requires.lower.face_edges) edges;
       cell_edges = c.in_ok-cell_edges.ensures ∙ turned_near mesh Edge Cell (λ x y. sym (either_cell_edge mesh y x)) c.args.lower.now.edge_cells (length c.cells.result.now) c.requires.lower.edge_cells cells;
       cell_faces = cell_faces;
-      cell_cells = cells_beside mesh c.in_ok-cell_faces.cell_faces c.args.lower.now.face_cells c.in_ok-cell_cells.cell_cells cell_faces c.requires.lower.face_cells c.in_ok-cell_cells.ensures;
+      cell_cells = cells_beside mesh c.in_ok-cell_faces.cell_faces.lists c.args.lower.now.face_cells c.in_ok-cell_cells.cell_cells cell_faces c.requires.lower.face_cells c.in_ok-cell_cells.ensures;
     }

@@ -9,11 +9,11 @@ returns-in-Vertex c =
     read_row c.self.inside.raw c.args.self.now Edge Vertex c.args.out c.self.inside.lower.sets.edges.items c.args.e c.index.result.now (c.self.invariant.lower_is.sets.edges ∙ edge_vertices c.self.inside.raw) c.self.view_is c.in-Vertex.is c.requires.below c.index.ensures
 
 pub of-requires : goal.of-requires
-of-requires c = inside c.self.inside.raw c.args.self.now Edge Face c.self.inside.upper.edge_faces c.args.e c.self.invariant.upper_is.edge_faces c.self.view_is c.requires.below
+of-requires c = inside c.self.inside.raw c.args.self.now Edge Face c.self.inside.upper.edge_faces.lists c.args.e c.self.invariant.upper_is.edge_faces c.self.view_is c.requires.below
 
 pub returns-in-Face : goal.returns-in-Face
 returns-in-Face c =
-    read c.self.inside.raw c.args.self.now Edge Face c.args.out c.self.inside.upper.edge_faces c.args.e c.of.result.now c.self.invariant.upper_is.edge_faces c.self.view_is c.in-Face.is c.requires.below c.of.ensures
+    read c.self.inside.raw c.args.self.now Edge Face c.args.out c.self.inside.upper.edge_faces.lists c.args.e c.of.result.now c.self.invariant.upper_is.edge_faces c.self.view_is c.in-Face.is c.requires.below c.of.ensures
 
 pub of-requires-in-Cell : goal.of-requires-in-Cell
 of-requires-in-Cell c = inside c.self.inside.raw c.args.self.now Edge Cell c.self.inside.lower.edge_cells c.args.e c.self.invariant.lower_is.edge_cells c.self.view_is c.requires.below
