@@ -12,6 +12,7 @@ use Rattle.mesh_topology.proofs.Sets.{Member, all_at, included, includes_by, mem
 use Rattle.mesh_topology.proofs.Rising.{Pairs, pairs_of, between_pairs, different, Before, not_before_itself}
 use Rattle.mesh_topology.proofs.Ranked.{ordered}
 use Rattle.mesh_topology.proofs.FaceEdges.{placed}
+use Rattle.mesh_topology.proofs.Sides.{one_or_two}
 use Rattle.mesh_topology.proofs.Chosen.{Rises, is_choice}
 use Rattle.mesh_topology.proofs.Near.{IsKept, kept_is, rising_is, cell_is, cell_count, vertex_count, vertex_is, more_left, HasRow, AreRows, table_members}
 use Rattle.mesh_topology.proofs.Lowers.{near_all_long, near_all_at}
@@ -186,3 +187,10 @@ few_edges_near mesh is = rows_few mesh is Edge 2 6 refl (omega arith) four_two (
 
 pub few_faces_near : (mesh : MeshLists) → IsMesh (length mesh.points) (corner_lists mesh) → All (λ row. length row ≤ 4) (near_all mesh Cell Face)
 few_faces_near mesh is = rows_few mesh is Face 3 4 refl (omega arith) four_three (λ cell y. refl)
+
+-- and a face has at most two cells beside it
+pub few_sides : (mesh : MeshLists) → IsMesh (length mesh.points) (corner_lists mesh) → All (λ row. length row ≤ 2) (near_all mesh Face Cell)
+few_sides mesh is face d l =
+    let k : face < count mesh Face = subst (λ m. face < m) (near_all_long mesh Face Cell) l in
+    let e : get_or (near_all mesh Face Cell) face d ≡ near mesh Face face Cell = get_or_default (near_all mesh Face Cell) face d [] l ∙ near_all_at mesh Face Cell face k in
+    subst (λ row. length row ≤ 2) (sym e) (one_or_two mesh is face k).1

@@ -4,6 +4,7 @@ pub mod Cycles
 pub mod FaceEdges
 pub mod Few
 pub mod Found
+pub mod Fronts
 pub mod Indexed
 pub mod Kept
 pub mod Listed
@@ -19,3 +20,4 @@ pub mod Uppers
 pub mod Packed
 pub mod Begun
 pub mod Holders
+pub mod Joined

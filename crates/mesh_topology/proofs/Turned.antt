@@ -78,10 +78,10 @@ one_more n = ap (λ m. range_with_len 0 m) (less n) ∙ (numbers_more 0 n ∙ bo
   both = let e : n ≡ n - 0 = omega arith in let f : 0 + n ≡ n = omega arith in ap (λ m. range_with_len 0 m ++ (0 + n) ∷ []) e ∙ ap (λ v. numbers 0 n ++ v ∷ []) f
 
 -- the places of the first rows that have an id
-abbrev with : List (List ℕ) → ℕ → ℕ → List ℕ
+abbrev pub with : List (List ℕ) → ℕ → ℕ → List ℕ
 with rows y n = filter (λ x. is_in (get_or rows x []) y) (numbers 0 n)
 
-with_more : (rows : List (List ℕ)) (y n : ℕ) → with rows y (n + 1) ≡ cond (is_in (get_or rows n []) y) (with rows y n ++ n ∷ []) (with rows y n)
+pub with_more : (rows : List (List ℕ)) (y n : ℕ) → with rows y (n + 1) ≡ cond (is_in (get_or rows n []) y) (with rows y n ++ n ∷ []) (with rows y n)
 with_more rows y n =
     let p = λ (x : ℕ). is_in (get_or rows x []) y in
     ap (λ xs. filter p xs) (one_more n) ∙ (filter-append p (numbers 0 n) (n ∷ []) ∙ go (p n) (with rows y n))
@@ -118,7 +118,7 @@ degrees_more rows count id mid new so added = record { long = added.long ∙ so.
       added.at y (omega (arith, so.long)) ∙ (ap (λ n. cond (is_in (get_or rows id []) y) (n + 1) n) (so.at y l) ∙ (go (is_in (get_or rows id []) y) (with rows y id) ∙ ap (λ xs. length xs) (sym (with_more rows y id))))
 
 -- no more rows have an id than there are
-few_with : (rows : List (List ℕ)) (y n : ℕ) → length (with rows y n) ≤ n
+pub few_with : (rows : List (List ℕ)) (y n : ℕ) → length (with rows y n) ≤ n
 few_with rows y zero = omega arith
 few_with rows y (suc n) =
     let e : n + 1 ≡ suc n = omega arith in
@@ -187,28 +187,39 @@ degrees_all rows count done degrees e so = ext_get_or 0 degrees (map (λ xs. len
 pub degrees_long : (rows : List (List ℕ)) (count : ℕ) → length (map (λ xs. length xs) (turned rows count)) ≡ count
 degrees_long rows count = length-map (turned rows count) (λ xs. length xs) ∙ turned_long rows count
 
--- so many ids have room in each list
-abbrev pub CanHold : List (List ℕ) → ℕ → List ℕ → Type 0
-CanHold rows count rooms = (y : ℕ) → y < count → length (with rows y (length rows)) ≤ get_or rooms y 0
-
-pub holds_counted : (rows : List (List ℕ)) (count : ℕ) (rooms : List ℕ) → rooms ≡ map (λ xs. length xs) (turned rows count) → CanHold rows count rooms
-holds_counted rows count rooms is y l = let e = ap (λ xs. get_or xs y 0) is ∙ degree_at rows count y l in omega arith
-
-pub holds_most : (rows : List (List ℕ)) (count most : ℕ) (rooms : List ℕ) → rooms ≡ replicate count most → All (λ row. length row ≤ most) (turned rows count) → CanHold rows count rooms
-holds_most rows count most rooms is few y l =
-    let room = ap (λ xs. get_or xs y 0) is ∙ get_or-replicate count y most 0 l in
-    let long = ap (λ xs. length xs) (turned_at rows count y l) in
-    let here = few y [] (omega (arith, turned_long rows count)) in
-    omega arith
+-- where a row has an id, fewer of the rows before it have it than of all
+row_later : (rows : List (List ℕ)) (count id : ℕ) (row : List ℕ) → id < length rows → get_or rows id [] ≡ row → All (λ y. y < count) row → (k d : ℕ) → k < length row
+    → length (with rows (get_or row k d) id) < length (with rows (get_or row k d) (length rows))
+row_later rows count id row l e below k d m =
+    let y = get_or row k d in
+    let has : is_in (get_or rows id []) y ≡ true = subst (λ r. is_in r y ≡ true) (sym e) (member_in row y (member_at row k d m)) in
+    room_with rows y id l has
 
 -- the lists that a row names have room
-pub rooms_for : (rows : List (List ℕ)) (count id : ℕ) (row : List ℕ) (lists : List (List ℕ)) (rooms : List ℕ) → IsTurnedSoFar rows count id lists → CanHold rows count rooms
+pub rooms_for : (rows : List (List ℕ)) (count id : ℕ) (row : List ℕ) (lists : List (List ℕ)) (rooms : List ℕ) → IsTurnedSoFar rows count id lists → rooms ≡ map (λ xs. length xs) (turned rows count)
     → id < length rows → get_or rows id [] ≡ row → All (λ y. y < count) row → All (λ y. length (get_or lists y []) < get_or rooms y 0) row
-rooms_for rows count id row lists rooms so holds l e below k d m =
+rooms_for rows count id row lists rooms so is l e below k d m =
     let y = get_or row k d in
     let b : y < count = below k d m in
-    let has : is_in (get_or rows id []) y ≡ true = subst (λ r. is_in r y ≡ true) (sym e) (member_in row y (member_at row k d m)) in
-    let r = room_with rows y id l has in
+    let r = row_later rows count id row l e below k d m in
     let f = ap (λ xs. length xs) (so.at y b) in
-    let g = holds y b in
+    let g = ap (λ xs. get_or xs y 0) is ∙ degree_at rows count y b in
+    omega arith
+
+-- and so they have where no id is in more rows than so many
+pub fewer : (rows : List (List ℕ)) (count most id : ℕ) (row : List ℕ) → All (λ list. length list ≤ most) (turned rows count) → id < length rows → get_or rows id [] ≡ row → All (λ y. y < count) row
+    → (k d : ℕ) → k < length row → length (with rows (get_or row k d) id) < most
+fewer rows count most id row few l e below k d m =
+    let y = get_or row k d in
+    let b : y < count = below k d m in
+    let r = row_later rows count id row l e below k d m in
+    let long = ap (λ xs. length xs) (turned_at rows count y b) in
+    let here = few y [] (omega (arith, b, turned_long rows count)) in
+    omega arith
+
+pub rows_for : (rows : List (List ℕ)) (count most id : ℕ) (row : List ℕ) (lists : List (List ℕ)) → IsTurnedSoFar rows count id lists → All (λ list. length list ≤ most) (turned rows count)
+    → id < length rows → get_or rows id [] ≡ row → All (λ y. y < count) row → All (λ y. length (get_or lists y []) < most) row
+rows_for rows count most id row lists so few l e below k d m =
+    let f = fewer rows count most id row few l e below k d m in
+    let g = ap (λ xs. length xs) (so.at (get_or row k d) (below k d m)) in
     omega arith

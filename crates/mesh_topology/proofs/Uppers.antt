@@ -78,10 +78,10 @@ turned_near mesh kind out same rows n e f = near_all_is mesh out kind (turned ro
     one = record { rises = k.rises; inside = inside; all = all }
 
 -- other ids
-other_is : (x y : ℕ) → is_other x y ≡ true → (x ≡ y → ⊥)
+pub other_is : (x y : ℕ) → is_other x y ≡ true → (x ≡ y → ⊥)
 other_is x y h e = both_ways (y == x) (not-true (y == x) h) (eq-eqb y x (sym e))
 
-is_other_by : (x y : ℕ) → (x ≡ y → ⊥) → is_other x y ≡ true
+pub is_other_by : (x y : ℕ) → (x ≡ y → ⊥) → is_other x y ≡ true
 is_other_by x y ne = not_from_false (y == x) (false_from_ne_true (y == x) (λ h. ne (sym (eqb-true y x h))))
 
 not_same : (x y : ℕ) → (x ≡ y → ⊥) → not (x == y) ≡ true
@@ -177,6 +177,6 @@ pub vertices_beside : (mesh : MeshLists) (through back all : List (List ℕ)) �
     → AreBeside through back (length through) all → all ≡ near_all mesh Vertex Vertex
 vertices_beside mesh through back all e f are = beside_near mesh Vertex Edge (λ x y. refl) (λ x y. refl) (λ x y. refl) through back all (length through) e f refl are
 
-pub cells_beside : (mesh : MeshLists) (through back all : List (List ℕ)) → through ≡ near_all mesh Cell Face → back ≡ near_all mesh Face Cell
-    → AreBeside through back (length through) all → all ≡ near_all mesh Cell Cell
-cells_beside mesh through back all e f are = beside_near mesh Cell Face (λ x y. refl) (λ x y. refl) (λ x y. refl) through back all (length through) e f refl are
+pub cells_beside : (mesh : MeshLists) (through back : List (List ℕ)) (n : ℕ) (all : List (List ℕ)) → through ≡ near_all mesh Cell Face → back ≡ near_all mesh Face Cell → n ≡ length through
+    → AreBeside through back n all → all ≡ near_all mesh Cell Cell
+cells_beside mesh through back n all e f g are = beside_near mesh Cell Face (λ x y. refl) (λ x y. refl) (λ x y. refl) through back all n e f g are

@@ -1,5 +1,5 @@
 -- Lists with room for so many ids, one behind the other in one buffer. Contracts of private functions cite these.
-use Rattle.std.specs.Prelude.{◌≡◌, ℕ, ◌+◌, ◌-◌, ◌<◌, ◌≤◌, List, [], map, length, replicate, slice_index}
+use Rattle.std.specs.Prelude.{◌≡◌, ℕ, ◌+◌, ◌-◌, ◌<◌, ◌≤◌, ◌^◌, List, [], map, take, length, replicate, slice_index, slice_index_or}
 use Rattle.std.specs.List.{between, range_with_len}
 
 -- lists, and for how many ids each has room
@@ -28,3 +28,14 @@ pub record AreStartsOf (rooms : List ℕ) (done : ℕ) (starts : List ℕ) : Typ
 pub record IsEmptyWith (rooms : List ℕ) (buckets : Filled) : Type 0 where
   pub lists : buckets.lists ≡ replicate (length rooms) []
   pub rooms_are : buckets.rooms ≡ rooms
+
+-- the fronts of so many members of rows
+abbrev pub fronts : List ℕ → List (List ℕ) → List (List ℕ)
+fronts counts rows = map (λ i. take (slice_index counts i) (slice_index_or rows i [])) (range_with_len 0 (length counts))
+
+-- each front lies in its row, which has so many members
+pub record AreInside (size : ℕ) (counts : List ℕ) (rows : List (List ℕ)) : Type 0 where
+  pub few : size < 2 ^ 8
+  pub long : length rows ≡ length counts
+  pub wide : (i : ℕ) → i < length counts → length (slice_index_or rows i []) ≡ size
+  pub short : (i : ℕ) → i < length counts → slice_index counts i ≤ size

@@ -1,5 +1,5 @@
 -- Lists of ids for each element, turned round and joined. Contracts of private functions cite these. This project's own.
-use Rattle.std.specs.Prelude.{◌≡◌, ◌↔◌, ℕ, ◌<◌, ◌^◌, ◌==◌, not, Bool, List, [], ◌∷◌, map, length, slice_index, slice_index_or, if◌then◌else◌}
+use Rattle.std.specs.Prelude.{◌≡◌, ◌↔◌, ℕ, ◌<◌, ◌^◌, ◌==◌, not, Bool, List, [], ◌∷◌, ◌++◌, map, length, slice_index, slice_index_or, if◌then◌else◌}
 use Rattle.std.specs.List.{filter, flat_map, All, AllPairs, Contains}
 use Rattle.liszt_base.specs.Corners.{is_in}
 use Rattle.mesh_topology.specs.Choices.{begins_with, choices}
@@ -79,3 +79,14 @@ others_on id lists through = flat_map (λ by. filter (is_other id) (slice_index_
 pub record AreBeside (through back : List (List ℕ)) (done : ℕ) (all : List (List ℕ)) : Type 0 where
   pub long : length all ≡ done
   pub at : (id : ℕ) → id < done → IsSetOf (others_on id back (slice_index_or through id [])) (slice_index_or all id [])
+
+-- each id of a list has the others of it at the end of its row, and the other rows stay
+pub record AreJoined (list : List ℕ) (old new : List (List ℕ)) : Type 0 where
+  pub long : length new ≡ length old
+  pub at : (y : ℕ) → y < length old
+      → slice_index_or new y [] ≡ (if is_in list y then slice_index_or old y [] ++ filter (is_other y) list else slice_index_or old y [])
+
+-- for each of so many ids the others on those of the first lists that have it
+pub record AreOthersSoFar (lists : List (List ℕ)) (count done : ℕ) (rows : List (List ℕ)) : Type 0 where
+  pub long : length rows ≡ count
+  pub at : (y : ℕ) → y < count → slice_index_or rows y [] ≡ others_on y lists (filter (λ x. is_in (slice_index_or lists x []) y) (numbers 0 done))

@@ -40,8 +40,8 @@ pub record IsUpper (mesh : MeshLists) (t : Upper) : Type 0 where
   pub vertex_edges : t.vertex_edges.lists ≡ near_all mesh Vertex Edge
   pub vertex_faces : t.vertex_faces.lists ≡ near_all mesh Vertex Face
   pub edge_faces : t.edge_faces.lists ≡ near_all mesh Edge Face
-  pub cell_edges : t.cell_edges.lists ≡ near_all mesh Cell Edge
-  pub cell_faces : t.cell_faces.lists ≡ near_all mesh Cell Face
+  pub cell_edges : t.cell_edges ≡ near_all mesh Cell Edge
+  pub cell_faces : t.cell_faces ≡ near_all mesh Cell Face
   pub cell_cells : t.cell_cells ≡ near_all mesh Cell Cell
 
 -- all tables

@@ -2,9 +2,10 @@
 
 ghost use Rattle.std.specs.Prelude.{◌≡◌, ◌+◌, ◌<◌, ◌≤◌, ◌^◌, [], ◌∷◌, ◌++◌, IfOk, OnOk, map, length, slice_index, slice_index_or};
 ghost use Rattle.std.specs.List.{All, AllPairs, filter};
-ghost use Rattle.mesh_topology.specs.Incidence.{turned, is_other, others_on, AreBeside, CanJoin, CanTurn, IsChanged, IsSetOf};
+ghost use Rattle.mesh_topology.specs.Incidence.{turned, is_other, others_on, AreBeside, AreJoined, AreOthersSoFar, CanJoin, CanTurn, IsChanged, IsSetOf};
 
 use crate::buckets::Buckets;
+use crate::rows::Rows;
 use liszt_base::{NoMemory, PlainLists};
 use std::alloc::Global;
 
@@ -66,23 +67,90 @@ pub fn turn<const N: usize>(
     Ok(lists)
 }
 
-/// The same for lists, where no id is on more than so many.
-pub fn turn_lists(
-    alloc: Global,
-    rows: &PlainLists<u32>,
-    count: u32,
-    most: u32,
-) -> Result<Buckets, NoMemory>
-    requires can { CanTurn rows.now count }
-    requires few { All (λ row. length row ≤ most) (turned rows.now count) }
-    ensures { IfOk result (λ lists. lists.lists ≡ turned rows.now count) }
+/// Adds an id at the end of the rows that a list names.
+fn add_to_rows<const N: usize>(rows: &mut Rows<N>, list: &[u32], id: u32)
+    requires below { All (λ y. y < length rows.old) list.now }
+    requires rises { AllPairs (λ x y. x < y) list.now }
+    requires room { All (λ y. length (slice_index_or rows.old y []) < N) list.now }
+    ensures { IsChanged [] (λ row. row ++ id ∷ []) list.now rows.old rows.new }
 {
-    let rooms = vec![in alloc; most; count as usize]?;
-    let mut lists = Buckets::new(alloc, rooms.as_slice())?;
-    for id in 0..rows.len() {
-        add_to_each(&mut lists, rows.of(id), id as u32);
+    for y in list {
+        rows.push(*y, id);
     }
-    Ok(lists)
+}
+
+/// For each of so many ids the places of the lists that have it, ascending, where no more than so many have it.
+pub fn turn_lists<const N: usize>(
+    alloc: Global,
+    lists: &PlainLists<u32>,
+    count: u32,
+) -> Result<Rows<N>, NoMemory>
+    requires width { N < 2 ^ 8 }
+    requires can { CanTurn lists.now count }
+    requires few { All (λ row. length row ≤ N) (turned lists.now count) }
+    ensures { IfOk result (λ rows. rows ≡ turned lists.now count) }
+{
+    let mut rows = Rows::new(alloc, count)?;
+    for id in 0..lists.len() {
+        add_to_rows(&mut rows, lists.of(id), id as u32);
+    }
+    Ok(rows)
+}
+
+/// Adds each of two ids at the end of the row of the other.
+fn add_to_both<const N: usize>(rows: &mut Rows<N>, list: &[u32])
+    requires two { length list.now ≤ 2 }
+    requires below { All (λ y. y < length rows.old) list.now }
+    requires rises { AllPairs (λ x y. x < y) list.now }
+    requires room { All (λ y. length (slice_index_or rows.old y []) < N) list.now }
+    ensures { AreJoined list.now rows.old rows.new }
+{
+    if list.len() == 2 {
+        rows.push(list[0], list[1]);
+        rows.push(list[1], list[0]);
+    }
+}
+
+/// For each of so many ids the others on the lists of two that have it, where no more than so many have it.
+fn joined<const N: usize>(
+    alloc: Global,
+    lists: &PlainLists<u32>,
+    count: u32,
+) -> Result<Rows<N>, NoMemory>
+    requires width { N < 2 ^ 8 }
+    requires can { CanTurn lists.now count }
+    requires two { All (λ list. length list ≤ 2) lists.now }
+    requires few { All (λ row. length row ≤ N) (turned lists.now count) }
+    ensures { IfOk result (AreOthersSoFar lists.now count (length lists.now)) }
+{
+    let mut rows = Rows::new(alloc, count)?;
+    for id in 0..lists.len() {
+        add_to_both(&mut rows, lists.of(id));
+    }
+    Ok(rows)
+}
+
+/// For each of so many ids the others on the lists of two that have it, ascending, where no more than four have it.
+pub fn all_joined(
+    alloc: Global,
+    lists: &PlainLists<u32>,
+    count: u32,
+) -> Result<PlainLists<u32>, NoMemory>
+    requires can { CanTurn lists.now count }
+    requires two { All (λ list. length list ≤ 2) lists.now }
+    requires few { All (λ row. length row ≤ 4) (turned lists.now count) }
+    ensures { IfOk result (AreBeside (turned lists.now count) lists.now count) }
+{
+    let rows = joined::<4>(alloc, lists, count)?;
+    let mut all = PlainLists::new(alloc);
+    let mut set = Vec::new(alloc);
+    for id in 0..count {
+        set.clear();
+        set.extend_from_slice(rows.of(id as usize))?;
+        make_set(&mut set);
+        all.push(set.as_slice())?;
+    }
+    Ok(all)
 }
 
 /// The rows as lists.

@@ -10,6 +10,7 @@ mod incidence;
 pub mod laws;
 mod lower;
 mod mesh;
+mod rows;
 mod shared;
 mod tables;
 #[cfg(test)]

@@ -4,8 +4,9 @@ ghost use Rattle.std.specs.Prelude.{IfOk};
 ghost use Rattle.mesh_topology.specs.Tables.{IsLower, IsSmallMesh, IsUpper};
 
 use crate::buckets::Buckets;
-use crate::incidence::{all_beside, as_lists, turn, turn_lists};
+use crate::incidence::{all_beside, all_joined, as_lists, turn, turn_lists};
 use crate::lower::Lower;
+use crate::rows::Rows;
 use liszt_base::{NoMemory, PlainLists, RawMesh};
 use std::alloc::Global;
 
@@ -17,8 +18,8 @@ pub struct Upper {
     pub vertex_edges: Buckets,
     pub vertex_faces: Buckets,
     pub edge_faces: Buckets,
-    pub cell_edges: Buckets,
-    pub cell_faces: Buckets,
+    pub cell_edges: Rows<6>,
+    pub cell_faces: Rows<4>,
     pub cell_cells: PlainLists<u32>,
 }
 
@@ -35,10 +36,10 @@ pub fn build_upper(alloc: Global, raw: &RawMesh, lower: &Lower) -> Result<Upper,
     let vertex_edges = turn(alloc, lower.sets.edges.as_slice(), vertices)?;
     let vertex_faces = turn(alloc, lower.sets.faces.as_slice(), vertices)?;
     let edge_faces = turn(alloc, lower.face_edges.as_slice(), edges)?;
-    let cell_edges = turn_lists(alloc, &lower.edge_cells, cells, 6)?;
-    let cell_faces = turn_lists(alloc, &lower.face_cells, cells, 4)?;
+    let cell_edges = turn_lists(alloc, &lower.edge_cells, cells)?;
+    let cell_faces = turn_lists(alloc, &lower.face_cells, cells)?;
     let vertex_vertices = all_beside(alloc, &vertex_edges, &ends)?;
-    let cell_cells = all_beside(alloc, &cell_faces, &lower.face_cells)?;
+    let cell_cells = all_joined(alloc, &lower.face_cells, cells)?;
     Ok(Upper {
         vertex_vertices,
         vertex_edges,

@@ -1,7 +1,7 @@
 use Rattle.std.proofs.Common.{◌<◌, ◌^◌, [], ap, replicate, All, ◌++◌, ◌∷◌, length, subst, sym, ◌∙◌, arith}
 use Rattle.std.proofs.lemmas.List.{get_or_read}
 use Rattle.mesh_topology.specs.Incidence.{IsChanged}
-use Rattle.mesh_topology.proofs.Turned.{degrees_long, holds_counted, rooms_for, turned_more, turned_none, turned_all}
+use Rattle.mesh_topology.proofs.Turned.{degrees_long, rooms_for, turned_more, turned_none, turned_all}
 use Rattle.mesh_topology.proofs.incidence.turn.Goals as goal
 
 pub new-requires : goal.new-requires
@@ -22,7 +22,7 @@ add_to_each-requires-clause-room g c =
     let rows = c.args.rows.now in
     let row = get_or_read rows c.loop-id.id c.index-rows-id.result c.loop-id-test.true c.index-rows-id.is [] in
     rooms_for rows c.args.count c.loop-id.id c.index-rows-id.result c.loop-id.lists.lists c.loop-id.lists.rooms c.loop-id.invariant.0
-    (holds_counted rows c.args.count c.loop-id.lists.rooms (c.loop-id.invariant.1 ∙ c.in_ok-degrees.ensures)) c.loop-id-test.true (sym row)
+    (c.loop-id.invariant.1 ∙ c.in_ok-degrees.ensures) c.loop-id-test.true (sym row)
     (subst (λ r. All (λ y. y < c.args.count) r) (sym row) (c.requires.below c.loop-id.id [] c.loop-id-test.true))
 
 pub loop-id-preserved : goal.loop-id-preserved

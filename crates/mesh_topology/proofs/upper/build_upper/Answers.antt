@@ -1,8 +1,10 @@
 use Rattle.std.proofs.Common.{◌≡◌, ◌<◌, ◌≤◌, ◌^◌, All, length, ap, sym, subst, ◌∙◌, arith, rules}
 use Rattle.liszt_base.specs.declared.elements.Kind.TheVariants.{Vertex, Edge, Face, Cell}
 use Rattle.mesh_topology.specs.Elements.{count}
+use Rattle.mesh_topology.specs.Incidence.{turned}
 use Rattle.mesh_topology.proofs.Near.{cell_count, vertices_are}
-use Rattle.mesh_topology.proofs.Few.{few_edges_near, few_faces_near}
+use Rattle.mesh_topology.proofs.Few.{few_edges_near, few_faces_near, few_sides}
+use Rattle.mesh_topology.proofs.Turned.{turned_long}
 use Rattle.mesh_topology.proofs.Lowers.{edge_vertices, face_vertices}
 use Rattle.mesh_topology.proofs.Uppers.{turned_near, can_turn, can_join, either_edge_vertex, either_face_vertex, either_face_edge, either_cell_edge, either_cell_face, vertices_beside, cells_beside}
 use Rattle.mesh_topology.proofs.upper.build_upper.Goals as goal
@@ -48,27 +50,33 @@ turn-requires-3 c =
     let edges : c.len-edges.result ≡ count mesh Edge = omega (arith, c.args.lower.now.sets.edges.ok.0) in
     (omega arith, can_turn mesh c.requires.small Face Edge c.as_slice-4.result.now c.len-edges.result (c.as_slice-4.ensures.value ∙ c.requires.lower.face_edges) edges)
 
-pub turn_lists-requires-clause-can : goal.turn_lists-requires-clause-can
-turn_lists-requires-clause-can c =
-    let mesh = c.args.raw.now in
-    let cells = ap (λ cs. length cs) c.cells.ensures ∙ sym (cell_count mesh) in
-    can_turn mesh c.requires.small Edge Cell c.args.lower.now.edge_cells (length c.cells.result.now) c.requires.lower.edge_cells cells
-
-pub turn_lists-requires-clause-few : goal.turn_lists-requires-clause-few
-turn_lists-requires-clause-few c =
+pub turn_lists-requires : goal.turn_lists-requires
+turn_lists-requires c =
     let mesh = c.args.raw.now in
     let cells = ap (λ cs. length cs) c.cells.ensures ∙ sym (cell_count mesh) in
     let is = turned_near mesh Edge Cell (λ x y. sym (either_cell_edge mesh y x)) c.args.lower.now.edge_cells (length c.cells.result.now) c.requires.lower.edge_cells cells in
-    subst (λ t. All (λ row. length row ≤ 6) t) (sym is) (few_edges_near mesh c.requires.small.is)
+    let few = subst (λ t. All (λ row. length row ≤ 6) t) (sym is) (few_edges_near mesh c.requires.small.is) in
+    (omega arith, (omega arith, (can_turn mesh c.requires.small Edge Cell c.args.lower.now.edge_cells (length c.cells.result.now) c.requires.lower.edge_cells cells, few)))
 
-pub turn_lists-requires-2-clause-can : goal.turn_lists-requires-2-clause-can
-turn_lists-requires-2-clause-can c =
+pub turn_lists-requires-2 : goal.turn_lists-requires-2
+turn_lists-requires-2 c =
+    let mesh = c.args.raw.now in
+    let cells = ap (λ cs. length cs) c.cells.ensures ∙ sym (cell_count mesh) in
+    let is = turned_near mesh Face Cell (λ x y. sym (either_cell_face mesh y x)) c.args.lower.now.face_cells (length c.cells.result.now) c.requires.lower.face_cells cells in
+    let few = subst (λ t. All (λ row. length row ≤ 4) t) (sym is) (few_faces_near mesh c.requires.small.is) in
+    (omega arith, (omega arith, (can_turn mesh c.requires.small Face Cell c.args.lower.now.face_cells (length c.cells.result.now) c.requires.lower.face_cells cells, few)))
+
+pub all_joined-requires-clause-can : goal.all_joined-requires-clause-can
+all_joined-requires-clause-can c =
     let mesh = c.args.raw.now in
     let cells = ap (λ cs. length cs) c.cells.ensures ∙ sym (cell_count mesh) in
     can_turn mesh c.requires.small Face Cell c.args.lower.now.face_cells (length c.cells.result.now) c.requires.lower.face_cells cells
 
-pub turn_lists-requires-2-clause-few : goal.turn_lists-requires-2-clause-few
-turn_lists-requires-2-clause-few c =
+pub all_joined-requires-clause-two : goal.all_joined-requires-clause-two
+all_joined-requires-clause-two c = subst (λ t. All (λ row. length row ≤ 2) t) (sym c.requires.lower.face_cells) (few_sides c.args.raw.now c.requires.small.is)
+
+pub all_joined-requires-clause-few : goal.all_joined-requires-clause-few
+all_joined-requires-clause-few c =
     let mesh = c.args.raw.now in
     let cells = ap (λ cs. length cs) c.cells.ensures ∙ sym (cell_count mesh) in
     let is = turned_near mesh Face Cell (λ x y. sym (either_cell_face mesh y x)) c.args.lower.now.face_cells (length c.cells.result.now) c.requires.lower.face_cells cells in
@@ -81,12 +89,6 @@ all_beside-requires c =
     let edges = c.as_slice-2.ensures.value ∙ (c.requires.lower.sets.edges ∙ edge_vertices mesh) in
     can_join mesh c.requires.small Vertex Edge c.in_ok-vertex_edges.vertex_edges.lists c.in_ok-ends.ends (c.in_ok-vertex_edges.ensures ∙ turned_near mesh Edge Vertex (either_edge_vertex mesh) c.as_slice-2.result.now (length c.points.result.now) edges points) (c.in_ok-ends.ensures ∙ (c.as_slice.ensures.value ∙ (c.requires.lower.sets.edges ∙ edge_vertices mesh)))
 
-pub all_beside-requires-2 : goal.all_beside-requires-2
-all_beside-requires-2 c =
-    let mesh = c.args.raw.now in
-    let cells = ap (λ cs. length cs) c.cells.ensures ∙ sym (cell_count mesh) in
-    can_join mesh c.requires.small Cell Face c.in_ok-cell_faces.cell_faces.lists c.args.lower.now.face_cells (c.in_ok-cell_faces.ensures ∙ turned_near mesh Face Cell (λ x y. sym (either_cell_face mesh y x)) c.args.lower.now.face_cells (length c.cells.result.now) c.requires.lower.face_cells cells) c.requires.lower.face_cells
-
 pub returns : goal.returns
 returns c =
     let mesh = c.args.raw.now in
@@ -95,13 +97,13 @@ returns c =
     let edges : c.len-edges.result ≡ count mesh Edge = omega (arith, c.args.lower.now.sets.edges.ok.0) in
     let cells = ap (λ cs. length cs) c.cells.ensures ∙ sym (cell_count mesh) in
     let vertex_edges = c.in_ok-vertex_edges.ensures ∙ turned_near mesh Edge Vertex (either_edge_vertex mesh) c.as_slice-2.result.now (length c.points.result.now) (c.as_slice-2.ensures.value ∙ (c.requires.lower.sets.edges ∙ edge_vertices mesh)) points in
-    let cell_faces = c.in_ok-cell_faces.ensures ∙ turned_near mesh Face Cell (λ x y. sym (either_cell_face mesh y x)) c.args.lower.now.face_cells (length c.cells.result.now) c.requires.lower.face_cells cells in
+    let cell_faces = turned_near mesh Face Cell (λ x y. sym (either_cell_face mesh y x)) c.args.lower.now.face_cells (length c.cells.result.now) c.requires.lower.face_cells cells in
     record {
       vertex_vertices = vertices_beside mesh c.in_ok-vertex_edges.vertex_edges.lists c.in_ok-ends.ends c.in_ok-vertex_vertices.vertex_vertices vertex_edges (c.in_ok-ends.ensures ∙ (c.as_slice.ensures.value ∙ (c.requires.lower.sets.edges ∙ edge_vertices mesh))) c.in_ok-vertex_vertices.ensures;
       vertex_edges = vertex_edges;
       vertex_faces = c.in_ok-vertex_faces.ensures ∙ turned_near mesh Face Vertex (either_face_vertex mesh) c.as_slice-3.result.now (length c.points.result.now) (c.as_slice-3.ensures.value ∙ (c.requires.lower.sets.faces ∙ face_vertices mesh)) points;
       edge_faces = c.in_ok-edge_faces.ensures ∙ turned_near mesh Face Edge (either_face_edge mesh) c.as_slice-4.result.now c.len-edges.result (c.as_slice-4.ensures.value ∙ c.requires.lower.face_edges) edges;
       cell_edges = c.in_ok-cell_edges.ensures ∙ turned_near mesh Edge Cell (λ x y. sym (either_cell_edge mesh y x)) c.args.lower.now.edge_cells (length c.cells.result.now) c.requires.lower.edge_cells cells;
-      cell_faces = cell_faces;
-      cell_cells = cells_beside mesh c.in_ok-cell_faces.cell_faces.lists c.args.lower.now.face_cells c.in_ok-cell_cells.cell_cells cell_faces c.requires.lower.face_cells c.in_ok-cell_cells.ensures;
+      cell_faces = c.in_ok-cell_faces.ensures ∙ cell_faces;
+      cell_cells = cells_beside mesh (turned c.args.lower.now.face_cells (length c.cells.result.now)) c.args.lower.now.face_cells (length c.cells.result.now) c.in_ok-cell_cells.cell_cells cell_faces c.requires.lower.face_cells (sym (turned_long c.args.lower.now.face_cells (length c.cells.result.now))) c.in_ok-cell_cells.ensures;
     }

@@ -14,18 +14,18 @@ returns-in-Vertex c =
     read_row c.self.inside.raw c.args.self.now Cell Vertex c.args.out c.self.inside.lower.sets.cells.items c.args.c c.index.result.now (row_vertices c.self.inside.raw c.self.invariant.small.is c.self.inside.lower.sets.cells.items c.self.invariant.lower_is.sets.cells) c.self.view_is c.in-Vertex.is c.requires c.index.ensures
 
 pub of-requires : goal.of-requires
-of-requires c = inside c.self.inside.raw c.args.self.now Cell Edge c.self.inside.upper.cell_edges.lists c.args.c c.self.invariant.upper_is.cell_edges c.self.view_is c.requires
+of-requires c = (omega arith, inside c.self.inside.raw c.args.self.now Cell Edge c.self.inside.upper.cell_edges c.args.c c.self.invariant.upper_is.cell_edges c.self.view_is c.requires)
 
 pub returns-in-Edge : goal.returns-in-Edge
 returns-in-Edge c =
-    read c.self.inside.raw c.args.self.now Cell Edge c.args.out c.self.inside.upper.cell_edges.lists c.args.c c.of.result.now c.self.invariant.upper_is.cell_edges c.self.view_is c.in-Edge.is c.requires c.of.ensures
+    read c.self.inside.raw c.args.self.now Cell Edge c.args.out c.self.inside.upper.cell_edges c.args.c c.of.result.now c.self.invariant.upper_is.cell_edges c.self.view_is c.in-Edge.is c.requires c.of.ensures
 
 pub of-requires-in-Face : goal.of-requires-in-Face
-of-requires-in-Face c = inside c.self.inside.raw c.args.self.now Cell Face c.self.inside.upper.cell_faces.lists c.args.c c.self.invariant.upper_is.cell_faces c.self.view_is c.requires
+of-requires-in-Face c = (omega arith, inside c.self.inside.raw c.args.self.now Cell Face c.self.inside.upper.cell_faces c.args.c c.self.invariant.upper_is.cell_faces c.self.view_is c.requires)
 
 pub returns-in-Face : goal.returns-in-Face
 returns-in-Face c =
-    read c.self.inside.raw c.args.self.now Cell Face c.args.out c.self.inside.upper.cell_faces.lists c.args.c c.of-in-Face.result.now c.self.invariant.upper_is.cell_faces c.self.view_is c.in-Face.is c.requires c.of-in-Face.ensures
+    read c.self.inside.raw c.args.self.now Cell Face c.args.out c.self.inside.upper.cell_faces c.args.c c.of-in-Face.result.now c.self.invariant.upper_is.cell_faces c.self.view_is c.in-Face.is c.requires c.of-in-Face.ensures
 
 pub of-requires-in-Cell : goal.of-requires-in-Cell
 of-requires-in-Cell c = inside c.self.inside.raw c.args.self.now Cell Cell c.self.inside.upper.cell_cells c.args.c c.self.invariant.upper_is.cell_cells c.self.view_is c.requires
