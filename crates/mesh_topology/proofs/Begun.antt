@@ -1,5 +1,5 @@
 -- The sets that begin with each number, one number after the other.
-use Rattle.std.proofs.Common.{◌≡◌, ◌↔◌, ℕ, ◌+◌, ◌<◌, ◌^◌, true, Bool, List, [], ◌∷◌, ◌++◌, length, take, get_or, filter, flat_map, All, AllPairs, Contains, refl, sym, ap, subst, ◌∙◌, inl, inr, arith, eqb-true, eq-eqb}
+use Rattle.std.proofs.Common.{◌≡◌, ◌↔◌, ℕ, ◌+◌, ◌<◌, ◌^◌, true, Bool, List, [], ◌∷◌, ◌++◌, length, map, take, get_or, filter, flat_map, All, AllPairs, Contains, refl, sym, ap, subst, ◌∙◌, inl, inr, arith, eqb-true, eq-eqb, ltb-true, lt-ltb}
 use Rattle.std.specs.List.{AllZip}
 use Rattle.std.proofs.lemmas.Bool.{cases_eq}
 use Rattle.std.proofs.lemmas.List.{flat_map_more, take_more}
@@ -10,10 +10,10 @@ use Rattle.liszt_base.specs.declared.mesh.RawCell.{RawCell}
 use Rattle.mesh_topology.specs.Choices.{begins_with, choices, first_of, IsAscending, IsTableBelow, IsTableOf}
 use Rattle.mesh_topology.specs.Elements.{numbers, count}
 use Rattle.mesh_topology.specs.Tables.{IsSmallMesh}
-use Rattle.mesh_topology.specs.Incidence.{begun_in, turned, AreCellsOfEach, CanTurn}
-use Rattle.mesh_topology.proofs.Sets.{Member, in_member, member_in, member_at, member_contained, contained_member, member_left, member_right, member_parted, member_flat, member_flattened, member_kept, member_of_kept}
-use Rattle.mesh_topology.proofs.Rising.{all_pairs, pairs_of, pairs_append, Before, before_first}
-use Rattle.mesh_topology.proofs.Chosen.{choice_is}
+use Rattle.mesh_topology.specs.Incidence.{above_in, begun_in, is_above, pair, turned, AreCellsOfEach, CanTurn, IsSetOf}
+use Rattle.mesh_topology.proofs.Sets.{Member, in_member, member_in, member_at, member_contained, contained_member, member_left, member_right, member_parted, member_flat, member_flattened, member_map, member_mapped, member_kept, member_of_kept}
+use Rattle.mesh_topology.proofs.Rising.{all_pairs, pairs_of, pairs_append, pairs_map, Before, before_first, before_more}
+use Rattle.mesh_topology.proofs.Chosen.{choice_is, is_choice, Rises}
 use Rattle.mesh_topology.proofs.FaceEdges.{placed}
 use Rattle.mesh_topology.proofs.Near.{below_range, range_below}
 use Rattle.mesh_topology.proofs.Lowers.{row_vertices}
@@ -131,3 +131,73 @@ pub cells_of_vertices : (mesh : MeshLists) → IsSmallMesh mesh → (cells : Lis
 cells_of_vertices mesh small cells rows read lists n same all e m are =
     let near = row_vertices mesh small.is rows (subst (λ cs. AllZip IsAscending cs rows) same all) in
     cells_of_each rows lists n (can_turn mesh small Cell Vertex rows n near m) (are ∙ ap (λ r. turned r n) e) (subst (λ k. k < 2 ^ 32) (sym m) (small.fits Vertex))
+
+-- the corners of one cell more that are above a number
+pub above_more : (rows : List (List ℕ)) (low : ℕ) (ids : List ℕ) (i : ℕ) (mid new : List ℕ) → i < length ids → mid ≡ above_in rows low (take i ids)
+    → new ≡ mid ++ filter (is_above low) (get_or rows (get_or ids i 0) []) → new ≡ above_in rows low (take (i + 1) ids)
+above_more rows low ids i mid new l so is =
+    let f = λ (id : ℕ). filter (is_above low) (get_or rows id []) in
+    is ∙ (ap (λ xs. xs ++ f (get_or ids i 0)) so ∙ (flat_map_more f [] (take i ids) (get_or ids i 0) ∙ ap (λ xs. above_in rows low xs) (sym (take_more ids i 0 l))))
+
+-- the pairs of a number and those above it are the choices that begin with it
+pub pairs_above : (cells lists : List (List ℕ)) (v : ℕ) (above : List ℕ) → AreCellsOfEach cells lists → v < length lists → IsSetOf (above_in cells v (get_or lists v [])) above
+    → IsTableOf (begun_in 2 cells v (get_or lists v [])) (map (pair v) above)
+pairs_above cells lists v above h l is = record { ordered = ordered; members = λ set. (there set, back set) } where
+  f : ℕ → List ℕ
+  f id = filter (is_above v) (get_or cells id [])
+
+  g : ℕ → List (List ℕ)
+  g id = filter (begins_with v) (choices 2 (get_or cells id []))
+
+  has : ℕ → Bool
+  has id = is_in (get_or cells id []) v
+
+  ids : get_or lists v [] ≡ filter has (numbers 0 (length cells))
+  ids = ap (λ xs. get_or xs v []) h.are ∙ turned_at cells (length lists) v l
+
+  of_cell : (id : ℕ) → Member id (get_or lists v []) → (id < length cells) × (is_in (get_or cells id []) v ≡ true)
+  of_cell id m =
+      let k = member_of_kept has (numbers 0 (length cells)) id (subst (λ xs. Member id xs) ids m) in
+      (range_below (length cells) id k.0, k.1)
+
+  up : (id : ℕ) → id < length cells → Rises (get_or cells id [])
+  up id m = pairs_of (λ x y. x < y) (get_or cells id []) (h.can.rises id [] m)
+
+  ordered : AllPairs Before (map (pair v) above)
+  ordered = all_pairs Before (map (pair v) above) (pairs_map (λ x y. x < y) Before (pair v) above (λ x y r. before_more v (x ∷ []) (y ∷ []) (before_first x y [] [] r)) (pairs_of (λ x y. x < y) above is.rises))
+
+  inside : (v w : ℕ) (row : List ℕ) → Member v row → Member w row → (x : ℕ) → Member x (v ∷ w ∷ []) → Member x row
+  inside v w row a b x (inl e) = subst (λ y. Member y row) e a
+  inside v w row a b x (inr (inl e)) = subst (λ y. Member y row) e b
+  inside v w row a b x (inr (inr none)) = absurd none
+
+  there : (set : List ℕ) → Contains (map (pair v) above) set → Contains (begun_in 2 cells v (get_or lists v [])) set
+  there set c =
+      let t = member_mapped (pair v) above set (member_contained (map (pair v) above) set c) in
+      let w = t.0 in
+      let m = member_flattened f (get_or lists v []) w (member_contained (above_in cells v (get_or lists v [])) w ((is.members w).0 (contained_member above w t.1))) in
+      let k = member_of_kept (is_above v) (get_or cells m.0 []) w m.2 in
+      let o = of_cell m.0 m.1 in
+      let rise = ltb-true v w k.1 in
+      let choice = is_choice 2 (get_or cells m.0 []) (v ∷ w ∷ []) (up m.0 o.0) (record { size_is = refl; rises = (λ y n. elim n [ inl e ↦ subst (λ z. v < z) e rise | inr none ↦ absurd none ], (λ y none. absurd none, tt)); inside = inside v w (get_or cells m.0 []) (in_member (get_or cells m.0 []) v o.1) k.0 }) in
+      let kept = member_kept (begins_with v) (choices 2 (get_or cells m.0 [])) (v ∷ w ∷ []) choice (eq-eqb v v refl) in
+      subst (λ s. Contains (begun_in 2 cells v (get_or lists v [])) s) t.2 (contained_member (begun_in 2 cells v (get_or lists v [])) (v ∷ w ∷ []) (member_flat g (get_or lists v []) m.0 (v ∷ w ∷ []) m.1 kept))
+
+  back : (set : List ℕ) → Contains (begun_in 2 cells v (get_or lists v [])) set → Contains (map (pair v) above) set
+  back set c =
+      let m = member_flattened g (get_or lists v []) set (member_contained (begun_in 2 cells v (get_or lists v [])) set c) in
+      let k = member_of_kept (begins_with v) (choices 2 (get_or cells m.0 [])) set m.2 in
+      let o = of_cell m.0 m.1 in
+      let one = choice_is 2 (get_or cells m.0 []) set (up m.0 o.0) k.0 in
+      go m.0 m.1 set one.size_is one.rises one.inside (eqb-true (first_of set) v k.1)
+    where
+      go : (id : ℕ) → Member id (get_or lists v []) → (set : List ℕ) → length set ≡ 2 → Rises set → ((x : ℕ) → Member x set → Member x (get_or cells id [])) → first_of set ≡ v → Contains (map (pair v) above) set
+      go id m [] l r i e = absurd (omega arith)
+      go id m (x ∷ []) l r i e = absurd (omega arith)
+      go id m (x ∷ y ∷ z ∷ set) l r i e = absurd (omega arith)
+      go id m (x ∷ y ∷ []) l r i e =
+          let rise : v < y = subst (λ n. n < y) e (r.0 y (inl refl)) in
+          let kept = member_kept (is_above v) (get_or cells id []) y (i y (inr (inl refl))) (lt-ltb v y rise) in
+          let flat = member_flat f (get_or lists v []) id y m kept in
+          let here = member_contained above y ((is.members y).1 (contained_member (above_in cells v (get_or lists v [])) y flat)) in
+          subst (λ n. Contains (map (pair v) above) (n ∷ y ∷ [])) (sym e) (contained_member (map (pair v) above) (v ∷ y ∷ []) (member_map (pair v) above y here))

@@ -1,5 +1,5 @@
 -- Lists of ids for each element, turned round and joined. Contracts of private functions cite these. This project's own.
-use Rattle.std.specs.Prelude.{◌≡◌, ◌↔◌, ℕ, ◌<◌, ◌^◌, ◌==◌, not, Bool, List, [], ◌∷◌, ◌++◌, map, length, slice_index, slice_index_or, if◌then◌else◌}
+use Rattle.std.specs.Prelude.{◌≡◌, ◌↔◌, ℕ, ◌<◌, ◌^◌, ◌==◌, nat_lt, not, Bool, List, [], ◌∷◌, ◌++◌, map, length, slice_index, slice_index_or, if◌then◌else◌}
 use Rattle.std.specs.List.{filter, flat_map, All, AllPairs, Contains}
 use Rattle.liszt_base.specs.Corners.{is_in}
 use Rattle.mesh_topology.specs.Choices.{begins_with, choices}
@@ -24,6 +24,16 @@ pub record AreCellsOfEach (cells lists : List (List ℕ)) : Type 0 where
 -- the choices of some rows that begin with a number
 abbrev pub begun_in : ℕ → List (List ℕ) → ℕ → List ℕ → List (List ℕ)
 begun_in size rows first ids = flat_map (λ id. filter (begins_with first) (choices size (slice_index_or rows id []))) ids
+
+-- the members of some rows that are above a number, and pairs of a number and another one
+abbrev pub is_above : ℕ → ℕ → Bool
+is_above low x = nat_lt low x
+
+abbrev pub above_in : List (List ℕ) → ℕ → List ℕ → List ℕ
+above_in rows low ids = flat_map (λ id. filter (is_above low) (slice_index_or rows id [])) ids
+
+abbrev pub pair : ℕ → ℕ → List ℕ
+pair first other = first ∷ other ∷ []
 
 -- the items at the ids of a row are changed, and the others stay
 pub record IsChanged {A : Type 0} (default : A) (change : A → A) (row : List ℕ) (old new : List A) : Type 0 where

@@ -7,14 +7,6 @@ ghost use Rattle.mesh_topology.specs.Choices.{choices, first_of, AreRanks, AreSt
 use liszt_base::NoMemory;
 use std::alloc::Global;
 
-/// The six pairs of four corners, each in their order.
-pub fn pairs_of_four(corners: [u32; 4]) -> [[u32; 2]; 6]
-    ensures { result ≡ choices 2 corners }
-{
-    let [a, b, c, d] = corners;
-    [[a, b], [a, c], [a, d], [b, c], [b, d], [c, d]]
-}
-
 /// The three pairs of three corners, each in their order.
 pub fn pairs_of_three(corners: [u32; 3]) -> [[u32; 2]; 3]
     ensures { result ≡ choices 2 corners }

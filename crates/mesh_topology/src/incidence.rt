@@ -168,7 +168,7 @@ pub fn as_lists<const N: usize>(
 }
 
 /// Sorts ids, and leaves each of them once.
-fn make_set(ids: &mut Vec<u32>)
+pub fn make_set(ids: &mut Vec<u32>)
     ensures { IsSetOf ids.old.items ids.new.items }
 {
     ids.sort_unstable();

@@ -1,14 +1,13 @@
 //! The tables of a mesh.
 
-ghost use Rattle.std.specs.Prelude.{◌≡◌, ◌<◌, ◌++◌, IfOk, OnOk, length};
+ghost use Rattle.std.specs.Prelude.{◌≡◌, ◌<◌, ◌++◌, IfOk, OnOk, map, length};
 ghost use Rattle.std.specs.List.{All, AllZip, filter, flat_map};
 ghost use Rattle.std.specs.List.Sorted.{IsNonDecreasing, IsPermutation};
 ghost use Rattle.mesh_topology.specs.Choices.{begins_with, choices, AreRanks, HasChoices, IsAscending, IsIndexed, IsTableOf};
-ghost use Rattle.mesh_topology.specs.Incidence.{begun_in, AreCellsOfEach};
+ghost use Rattle.mesh_topology.specs.Incidence.{above_in, begun_in, is_above, pair, AreCellsOfEach, IsSetOf};
 
-use crate::corner_sets::{
-    first_of, make_table, pairs_of_four, pairs_of_three, ranks, triples_of_four,
-};
+use crate::corner_sets::{first_of, make_table, pairs_of_three, ranks, triples_of_four};
+use crate::incidence::make_set;
 use liszt_base::{NoMemory, PlainLists, RawCell};
 use std::alloc::Global;
 
@@ -49,21 +48,43 @@ fn add_begun<const N: usize>(
     Ok(())
 }
 
-/// Leaves the pairs of corners of some cells that begin with a number, each once, in lexicographic order.
-fn put_pairs(
-    pairs: &mut Vec<[u32; 2]>,
+/// Adds the corners of a cell that are above a number.
+fn add_above(above: &mut Vec<u32>, corners: &[u32; 4], low: u32) -> Result<(), NoMemory>
+    ensures { OnOk result (above.new.items ≡ above.old.items ++ filter (is_above low) corners.now) }
+{
+    for corner in corners {
+        if *corner > low {
+            above.push(*corner)?;
+        }
+    }
+    Ok(())
+}
+
+/// Leaves the corners of some cells that are above a number, each once, ascending.
+fn put_above(
+    above: &mut Vec<u32>,
     cells: &[[u32; 4]],
     ids: &[u32],
-    first: u32,
+    low: u32,
 ) -> Result<(), NoMemory>
     requires { All (λ id. id < length cells.now) ids.now }
-    ensures { OnOk result (IsTableOf (begun_in 2 cells.now first ids.now) pairs.new.items) }
+    ensures { OnOk result (IsSetOf (above_in cells.now low ids.now) above.new.items) }
 {
-    pairs.clear();
+    above.clear();
     for id in ids {
-        add_begun(pairs, &pairs_of_four(cells[*id as usize]), first)?;
+        add_above(above, &cells[*id as usize], low)?;
     }
-    make_table(pairs);
+    make_set(above);
+    Ok(())
+}
+
+/// Adds the pairs of a number and each of some others.
+fn add_pairs(table: &mut Vec<[u32; 2]>, first: u32, others: &[u32]) -> Result<(), NoMemory>
+    ensures { OnOk result (table.new.items ≡ table.old.items ++ map (pair first) others.now) }
+{
+    for other in others {
+        table.push([first, *other])?;
+    }
     Ok(())
 }
 
@@ -77,10 +98,10 @@ pub fn edges(
     ensures { IfOk result (λ table. IsTableOf (flat_map (choices 2) cells.now) table.items) }
 {
     let mut table = Vec::new(alloc);
-    let mut pairs = Vec::new(alloc);
+    let mut above = Vec::new(alloc);
     for v in 0..vertex_cells.len() {
-        put_pairs(&mut pairs, cells, vertex_cells.of(v), v as u32)?;
-        table.extend_from_slice(&pairs)?;
+        put_above(&mut above, cells, vertex_cells.of(v), v as u32)?;
+        add_pairs(&mut table, v as u32, above.as_slice())?;
     }
     Ok(table)
 }

@@ -1,12 +1,12 @@
-use Rattle.std.proofs.Common.{◌<◌, ◌++◌, [], All, length, get_or, flat_map, ap, sym, subst, ◌∙◌, arith}
+use Rattle.std.proofs.Common.{◌<◌, ◌++◌, [], All, length, get_or, map, flat_map, ap, sym, subst, ◌∙◌, arith}
 use Rattle.std.proofs.lemmas.Option.{get_or_from_slice_get}
-use Rattle.mesh_topology.specs.Choices.{choices, IsTableOf}
-use Rattle.mesh_topology.specs.Incidence.{begun_in}
-use Rattle.mesh_topology.proofs.Begun.{begun_are, cells_of, table_all, table_more}
+use Rattle.mesh_topology.specs.Choices.{choices}
+use Rattle.mesh_topology.specs.Incidence.{above_in, begun_in, pair, IsSetOf}
+use Rattle.mesh_topology.proofs.Begun.{begun_are, cells_of, pairs_above, table_all, table_more}
 use Rattle.mesh_topology.proofs.tables.edges.Goals as goal
 
-pub put_pairs-requires : goal.put_pairs-requires
-put_pairs-requires c =
+pub put_above-requires : goal.put_above-requires
+put_above-requires c =
     let lists = c.args.vertex_cells.now in
     let l : c.loop-v.v < length lists = omega (arith, c.len-v-end.ensures) in
     let e = get_or_from_slice_get lists c.loop-v.v c.of.result.now [] c.of.ensures in
@@ -19,9 +19,10 @@ loop-v-preserved c =
     let v = c.loop-v.v in
     let l : v < length lists = omega (arith, c.len-v-end.ensures) in
     let e = get_or_from_slice_get lists v c.of.result.now [] c.of.ensures in
-    let one = subst (λ ids. IsTableOf (begun_in 2 cells v ids) c.put_pairs.new.pairs.items) (sym e) c.in_ok-put_pairs.ensures in
-    table_more (flat_map (choices 2) cells) (begun_in 2 cells v (get_or lists v [])) c.loop-v.table.items c.put_pairs.new.pairs.items c.extend_from_slice.new.self.items v
-    (begun_are 2 cells lists v (omega arith) c.requires l) c.loop-v.invariant one (c.in_ok-extend_from_slice.ensures.items ∙ ap (λ xs. c.loop-v.table.items ++ xs) c.deref.ensures.value)
+    let above = c.put_above.new.above.items in
+    let one = pairs_above cells lists v above c.requires l (subst (λ ids. IsSetOf (above_in cells v ids) above) (sym e) c.in_ok-put_above.ensures) in
+    let is = c.in_ok-add_pairs.ensures ∙ ap (λ xs. c.loop-v.table.items ++ map (pair v) xs) c.as_slice.ensures.value in
+    table_more (flat_map (choices 2) cells) (begun_in 2 cells v (get_or lists v [])) c.loop-v.table.items (map (pair v) above) c.add_pairs.new.table.items v (begun_are 2 cells lists v (omega arith) c.requires l) c.loop-v.invariant one is
 
 pub returns : goal.returns
 returns c =
