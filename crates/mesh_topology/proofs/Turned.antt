@@ -118,7 +118,7 @@ degrees_more rows count id mid new so added = record { long = added.long ∙ so.
       added.at y (omega (arith, so.long)) ∙ (ap (λ n. cond (is_in (get_or rows id []) y) (n + 1) n) (so.at y l) ∙ (go (is_in (get_or rows id []) y) (with rows y id) ∙ ap (λ xs. length xs) (sym (with_more rows y id))))
 
 -- no more rows have an id than there are
-pub few_with : (rows : List (List ℕ)) (y n : ℕ) → length (with rows y n) ≤ n
+few_with : (rows : List (List ℕ)) (y n : ℕ) → length (with rows y n) ≤ n
 few_with rows y zero = omega arith
 few_with rows y (suc n) =
     let e : n + 1 ≡ suc n = omega arith in

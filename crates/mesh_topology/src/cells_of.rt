@@ -56,7 +56,7 @@ pub fn pairs_of(
     requires { length faces.now ≡ length face_edges.now }
     ensures { IfOk result (λ pairs. ArePairs faces.now face_edges.now pairs.items) }
 {
-    let mut pairs = Vec::new(alloc);
+    let mut pairs = Vec::with_capacity(alloc, faces.len())?;
     for id in 0..faces.len() {
         let [edge, ..] = face_edges[id];
         let [.., corner] = faces[id];

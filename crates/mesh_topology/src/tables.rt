@@ -25,7 +25,7 @@ fn ascending(corners: [u32; 4]) -> [u32; 4]
 pub fn cell_vertices(alloc: Global, cells: &[RawCell]) -> Result<Vec<[u32; 4]>, NoMemory>
     ensures { IfOk result (λ rows. AllZip IsAscending cells.now rows.items) }
 {
-    let mut rows = Vec::new(alloc);
+    let mut rows = Vec::with_capacity(alloc, cells.len())?;
     for cell in cells {
         rows.push(ascending(cell.corners))?;
     }
@@ -153,7 +153,7 @@ pub fn face_edges(
     requires inside { All (HasChoices 2 edges.now) faces.now }
     ensures { IfOk result (λ rows. AllZip (λ corners ids. AreRanks edges.now (choices 2 corners) ids) faces.now rows.items) }
 {
-    let mut rows = Vec::new(alloc);
+    let mut rows = Vec::with_capacity(alloc, faces.len())?;
     for corners in faces {
         rows.push(ranks(edges, starts, &pairs_of_three(*corners)))?;
     }
