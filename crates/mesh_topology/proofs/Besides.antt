@@ -6,13 +6,10 @@ use Rattle.std.proofs.lemmas.Option.{get_or_from_slice_get}
 use Rattle.mesh_topology.specs.Incidence.{is_other, others_on, AreBeside, IsSetOf}
 
 -- a list more
-pub others_more : (id : ℕ) (back : List (List ℕ)) (through : List ℕ) (i : ℕ) (mid list new : List ℕ) → i < length through → slice_get back (get_or through i 0) ≡ Some list
-    → mid ≡ others_on id back (take i through) → new ≡ mid ++ filter (is_other id) list → new ≡ others_on id back (take (i + 1) through)
-others_more id back through i mid list new l read so is =
+pub others_more : (id : ℕ) (back : List (List ℕ)) (through : List ℕ) (i : ℕ) (mid new : List ℕ) → i < length through → mid ≡ others_on id back (take i through) → new ≡ mid ++ filter (is_other id) (get_or back (get_or through i 0) []) → new ≡ others_on id back (take (i + 1) through)
+others_more id back through i mid new l so is =
     let f = λ (by : ℕ). filter (is_other id) (get_or back by []) in
-    let one = sym (get_or_from_slice_get back (get_or through i 0) list [] read) in
-    is ∙ (ap (λ xs. xs ++ filter (is_other id) list) so ∙ (ap (λ xs. others_on id back (take i through) ++ filter (is_other id) xs) one
-    ∙ (flat_map_more f [] (take i through) (get_or through i 0) ∙ ap (λ xs. others_on id back xs) (sym (take_more through i 0 l)))))
+    is ∙ (ap (λ xs. xs ++ f (get_or through i 0)) so ∙ (flat_map_more f [] (take i through) (get_or through i 0) ∙ ap (λ xs. others_on id back xs) (sym (take_more through i 0 l))))
 
 -- a set more
 pub beside_more : (through back : List (List ℕ)) (id : ℕ) (all : List (List ℕ)) (list others : List ℕ) (new : List (List ℕ)) → AreBeside through back id all → slice_get through id ≡ Some list

@@ -153,20 +153,6 @@ pub fn all_joined(
     Ok(all)
 }
 
-/// The rows as lists.
-pub fn as_lists<const N: usize>(
-    alloc: Global,
-    rows: &[[u32; N]],
-) -> Result<PlainLists<u32>, NoMemory>
-    ensures { IfOk result (λ lists. lists ≡ rows.now) }
-{
-    let mut lists = PlainLists::new(alloc);
-    for row in rows {
-        lists.push(row)?;
-    }
-    Ok(lists)
-}
-
 /// Sorts ids, and leaves each of them once.
 pub fn make_set(ids: &mut Vec<u32>)
     ensures { IsSetOf ids.old.items ids.new.items }
@@ -187,29 +173,29 @@ fn add_others(others: &mut Vec<u32>, list: &[u32], id: u32) -> Result<(), NoMemo
     Ok(())
 }
 
-/// Leaves the ids on the lists of a list, but one.
+/// Leaves the ids in the rows of a list, but one, ascending.
 fn put_beside(
     others: &mut Vec<u32>,
     id: u32,
     through: &[u32],
-    back: &PlainLists<u32>,
+    back: &[[u32; 2]],
 ) -> Result<(), NoMemory>
     requires { All (λ by. by < length back.now) through.now }
     ensures { OnOk result (IsSetOf (others_on id back.now through.now) others.new.items) }
 {
     others.clear();
     for by in through {
-        add_others(others, back.of(*by as usize), id)?;
+        add_others(others, &back[*by as usize], id)?;
     }
     make_set(others);
     Ok(())
 }
 
-/// For each id those on the lists of its list, but itself.
+/// For each id those in the rows of its list, but itself, ascending.
 pub fn all_beside(
     alloc: Global,
     through: &Buckets,
-    back: &PlainLists<u32>,
+    back: &[[u32; 2]],
 ) -> Result<PlainLists<u32>, NoMemory>
     requires { CanJoin through.now.lists (length back.now) }
     ensures { IfOk result (AreBeside through.now.lists back.now (length through.now.lists)) }

@@ -4,7 +4,7 @@ ghost use Rattle.std.specs.Prelude.{IfOk};
 ghost use Rattle.mesh_topology.specs.Tables.{IsLower, IsSmallMesh, IsUpper};
 
 use crate::buckets::Buckets;
-use crate::incidence::{all_beside, all_joined, as_lists, turn, turn_lists};
+use crate::incidence::{all_beside, all_joined, turn, turn_lists};
 use crate::lower::Lower;
 use crate::rows::Rows;
 use liszt_base::{NoMemory, PlainLists, RawMesh};
@@ -32,13 +32,12 @@ pub fn build_upper(alloc: Global, raw: &RawMesh, lower: &Lower) -> Result<Upper,
     let vertices = raw.points().len() as u32;
     let edges = lower.sets.edges.len() as u32;
     let cells = raw.cells().len() as u32;
-    let ends = as_lists(alloc, lower.sets.edges.as_slice())?;
     let vertex_edges = turn(alloc, lower.sets.edges.as_slice(), vertices)?;
     let vertex_faces = turn(alloc, lower.sets.faces.as_slice(), vertices)?;
     let edge_faces = turn(alloc, lower.face_edges.as_slice(), edges)?;
     let cell_edges = turn_lists(alloc, &lower.edge_cells, cells)?;
     let cell_faces = turn_lists(alloc, &lower.face_cells, cells)?;
-    let vertex_vertices = all_beside(alloc, &vertex_edges, &ends)?;
+    let vertex_vertices = all_beside(alloc, &vertex_edges, lower.sets.edges.as_slice())?;
     let cell_cells = all_joined(alloc, &lower.face_cells, cells)?;
     Ok(Upper {
         vertex_vertices,

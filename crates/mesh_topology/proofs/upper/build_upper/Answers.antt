@@ -35,20 +35,20 @@ pub turn-requires : goal.turn-requires
 turn-requires c =
     let mesh = c.args.raw.now in
     let points = vertices_are mesh c.points.result.now c.points.ensures in
-    (omega arith, can_turn mesh c.requires.small Edge Vertex c.as_slice-2.result.now (length c.points.result.now) (c.as_slice-2.ensures.value ∙ (c.requires.lower.sets.edges ∙ edge_vertices mesh)) points)
+    (omega arith, can_turn mesh c.requires.small Edge Vertex c.as_slice.result.now (length c.points.result.now) (c.as_slice.ensures.value ∙ (c.requires.lower.sets.edges ∙ edge_vertices mesh)) points)
 
 pub turn-requires-2 : goal.turn-requires-2
 turn-requires-2 c =
     let mesh = c.args.raw.now in
     let points = vertices_are mesh c.points.result.now c.points.ensures in
-    (omega arith, can_turn mesh c.requires.small Face Vertex c.as_slice-3.result.now (length c.points.result.now) (c.as_slice-3.ensures.value ∙ (c.requires.lower.sets.faces ∙ face_vertices mesh)) points)
+    (omega arith, can_turn mesh c.requires.small Face Vertex c.as_slice-2.result.now (length c.points.result.now) (c.as_slice-2.ensures.value ∙ (c.requires.lower.sets.faces ∙ face_vertices mesh)) points)
 
 pub turn-requires-3 : goal.turn-requires-3
 turn-requires-3 c =
     let mesh = c.args.raw.now in
     let e = ap (λ t. length t) c.requires.lower.sets.edges in
     let edges : c.len-edges.result ≡ count mesh Edge = omega (arith, c.args.lower.now.sets.edges.ok.0) in
-    (omega arith, can_turn mesh c.requires.small Face Edge c.as_slice-4.result.now c.len-edges.result (c.as_slice-4.ensures.value ∙ c.requires.lower.face_edges) edges)
+    (omega arith, can_turn mesh c.requires.small Face Edge c.as_slice-3.result.now c.len-edges.result (c.as_slice-3.ensures.value ∙ c.requires.lower.face_edges) edges)
 
 pub turn_lists-requires : goal.turn_lists-requires
 turn_lists-requires c =
@@ -86,8 +86,8 @@ pub all_beside-requires : goal.all_beside-requires
 all_beside-requires c =
     let mesh = c.args.raw.now in
     let points = vertices_are mesh c.points.result.now c.points.ensures in
-    let edges = c.as_slice-2.ensures.value ∙ (c.requires.lower.sets.edges ∙ edge_vertices mesh) in
-    can_join mesh c.requires.small Vertex Edge c.in_ok-vertex_edges.vertex_edges.lists c.in_ok-ends.ends (c.in_ok-vertex_edges.ensures ∙ turned_near mesh Edge Vertex (either_edge_vertex mesh) c.as_slice-2.result.now (length c.points.result.now) edges points) (c.in_ok-ends.ensures ∙ (c.as_slice.ensures.value ∙ (c.requires.lower.sets.edges ∙ edge_vertices mesh)))
+    let edges = c.as_slice.ensures.value ∙ (c.requires.lower.sets.edges ∙ edge_vertices mesh) in
+    can_join mesh c.requires.small Vertex Edge c.in_ok-vertex_edges.vertex_edges.lists c.as_slice-4.result.now (c.in_ok-vertex_edges.ensures ∙ turned_near mesh Edge Vertex (either_edge_vertex mesh) c.as_slice.result.now (length c.points.result.now) edges points) (c.as_slice-4.ensures.value ∙ (c.requires.lower.sets.edges ∙ edge_vertices mesh))
 
 pub returns : goal.returns
 returns c =
@@ -96,13 +96,13 @@ returns c =
     let e = ap (λ t. length t) c.requires.lower.sets.edges in
     let edges : c.len-edges.result ≡ count mesh Edge = omega (arith, c.args.lower.now.sets.edges.ok.0) in
     let cells = ap (λ cs. length cs) c.cells.ensures ∙ sym (cell_count mesh) in
-    let vertex_edges = c.in_ok-vertex_edges.ensures ∙ turned_near mesh Edge Vertex (either_edge_vertex mesh) c.as_slice-2.result.now (length c.points.result.now) (c.as_slice-2.ensures.value ∙ (c.requires.lower.sets.edges ∙ edge_vertices mesh)) points in
+    let vertex_edges = c.in_ok-vertex_edges.ensures ∙ turned_near mesh Edge Vertex (either_edge_vertex mesh) c.as_slice.result.now (length c.points.result.now) (c.as_slice.ensures.value ∙ (c.requires.lower.sets.edges ∙ edge_vertices mesh)) points in
     let cell_faces = turned_near mesh Face Cell (λ x y. sym (either_cell_face mesh y x)) c.args.lower.now.face_cells (length c.cells.result.now) c.requires.lower.face_cells cells in
     record {
-      vertex_vertices = vertices_beside mesh c.in_ok-vertex_edges.vertex_edges.lists c.in_ok-ends.ends c.in_ok-vertex_vertices.vertex_vertices vertex_edges (c.in_ok-ends.ensures ∙ (c.as_slice.ensures.value ∙ (c.requires.lower.sets.edges ∙ edge_vertices mesh))) c.in_ok-vertex_vertices.ensures;
+      vertex_vertices = vertices_beside mesh c.in_ok-vertex_edges.vertex_edges.lists c.as_slice-4.result.now c.in_ok-vertex_vertices.vertex_vertices vertex_edges (c.as_slice-4.ensures.value ∙ (c.requires.lower.sets.edges ∙ edge_vertices mesh)) c.in_ok-vertex_vertices.ensures;
       vertex_edges = vertex_edges;
-      vertex_faces = c.in_ok-vertex_faces.ensures ∙ turned_near mesh Face Vertex (either_face_vertex mesh) c.as_slice-3.result.now (length c.points.result.now) (c.as_slice-3.ensures.value ∙ (c.requires.lower.sets.faces ∙ face_vertices mesh)) points;
-      edge_faces = c.in_ok-edge_faces.ensures ∙ turned_near mesh Face Edge (either_face_edge mesh) c.as_slice-4.result.now c.len-edges.result (c.as_slice-4.ensures.value ∙ c.requires.lower.face_edges) edges;
+      vertex_faces = c.in_ok-vertex_faces.ensures ∙ turned_near mesh Face Vertex (either_face_vertex mesh) c.as_slice-2.result.now (length c.points.result.now) (c.as_slice-2.ensures.value ∙ (c.requires.lower.sets.faces ∙ face_vertices mesh)) points;
+      edge_faces = c.in_ok-edge_faces.ensures ∙ turned_near mesh Face Edge (either_face_edge mesh) c.as_slice-3.result.now c.len-edges.result (c.as_slice-3.ensures.value ∙ c.requires.lower.face_edges) edges;
       cell_edges = c.in_ok-cell_edges.ensures ∙ turned_near mesh Edge Cell (λ x y. sym (either_cell_edge mesh y x)) c.args.lower.now.edge_cells (length c.cells.result.now) c.requires.lower.edge_cells cells;
       cell_faces = c.in_ok-cell_faces.ensures ∙ cell_faces;
       cell_cells = cells_beside mesh (turned c.args.lower.now.face_cells (length c.cells.result.now)) c.args.lower.now.face_cells (length c.cells.result.now) c.in_ok-cell_cells.cell_cells cell_faces c.requires.lower.face_cells (sym (turned_long c.args.lower.now.face_cells (length c.cells.result.now))) c.in_ok-cell_cells.ensures;
