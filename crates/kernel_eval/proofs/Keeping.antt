@@ -250,7 +250,7 @@ module _ {P : Access → Type 0} {R : Moment → Moment → Type 0} (k : IsKept 
   local_keeps : (name : List ℕ) (n : ℤ) → Keeps R (changes (with_local name n))
   local_keeps name n = record { kept = k.local name n }
 
-  element_keeps : (name : List ℕ) (x : Option Elem) → Keeps R (changes (with_element name x))
+  pub element_keeps : (name : List ℕ) (x : Option Elem) → Keeps R (changes (with_element name x))
   element_keeps name x = record { kept = k.element name x }
 
   keeps_block_end : (before s : Moment) → R before s → (answer : Result (Unit {0}) Stop)

@@ -1,4 +1,5 @@
 pub mod Cases
+pub mod Fits
 pub mod Iterations
 pub mod Kept
 pub mod Meaning

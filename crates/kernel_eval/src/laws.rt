@@ -1,15 +1,18 @@
 //! Laws of the definitions, each the contract of a function that does nothing.
 
 ghost use Rattle.liszt_base.specs.MeshLists.{MeshLists};
-ghost use Rattle.std.specs.Prelude.{◌≡◌, ℕ, Err};
+ghost use Rattle.std.specs.Prelude.{◌<◌, ◌≡◌, ℕ, Err, is_some, length, true};
+ghost use Rattle.liszt_base.specs.Corners.{IsMesh};
 ghost use Rattle.std.specs.List.{AllByRecursion};
 ghost use Rattle.liszt_base.specs.declared.answers.Place.{Place};
 ghost use Rattle.liszt_base.specs.declared.answers.TrapKind.TheVariants.{Spent};
 ghost use Rattle.liszt_tree.specs.Tree.{Body, Expression, Statement, While, statement};
+ghost use Rattle.mesh_topology.specs.Elements.{corner_lists, count};
 ghost use Rattle.phase_types.specs.Names.{Comprehension, Names};
 ghost use Rattle.phase_types.specs.Typed.{ComprehensionFits};
 ghost use Rattle.phase_types.specs.Walk.{OfField, mode_in};
-ghost use Rattle.kernel_eval.specs.Iterations.{acts, iteration};
+ghost use Rattle.kernel_eval.specs.Fits.{StateFits};
+ghost use Rattle.kernel_eval.specs.Iterations.{acts, iteration, iteration_end};
 ghost use Rattle.kernel_eval.specs.Kept.{ChangesNothing, FoldsByTheMode, HasNoMoreTurns, HasTheMode, Keeps, MakesFields, field_values, loop_once};
 ghost use Rattle.kernel_eval.specs.Outcomes.{Stop, stops};
 ghost use Rattle.kernel_eval.specs.States.{Moment, State};
@@ -54,4 +57,13 @@ pub fn acts_have_the_mode()
 pub fn other_fields_stay()
     ensures { (mesh : MeshLists) (c : Comprehension) (turns : ℕ) (s : State) (id field : ℕ) → ComprehensionFits c
         → ChangesNothing (mode_in c (OfField field)) → field_values (iteration mesh c turns s id).after.state field ≡ field_values s field }
+{}
+
+/// From a state that fits its names, an iteration of a typed comprehension over an element of the mesh ends, done or by a trap: it is never without
+/// meaning. And any iteration leaves a state that fits the names again, also where it traps.
+pub fn typed_iterations_end()
+    ensures ends { (mesh : MeshLists) (c : Comprehension) (turns : ℕ) (s : State) (id : ℕ) → IsMesh (length mesh.points) (corner_lists mesh)
+        → ComprehensionFits c → StateFits mesh c.names s → id < count mesh c.over → is_some (iteration_end mesh c turns s id) ≡ true }
+    ensures fits { (mesh : MeshLists) (c : Comprehension) (turns : ℕ) (s : State) (id : ℕ) → StateFits mesh c.names s
+        → StateFits mesh c.names (iteration mesh c turns s id).after.state }
 {}

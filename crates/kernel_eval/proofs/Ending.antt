@@ -1,0 +1,484 @@
+-- What a typed expression, statement or body comes to where its names fit: it ends, done or by a trap.
+use Rattle.std.proofs.Common.{◌≡◌, ◌≢◌, ◌<◌, ℕ, zero, suc, Bool, true, false, List, [], ◌∷◌, refl, subst, inl, inr, arith, ne_eqb}
+use Rattle.std.proofs.lemmas.Bool.{cases_Bool, lt-ltb}
+use Rattle.std.proofs.lemmas.List.{length-map}
+use Rattle.std.proofs.lemmas.Slice.Eq.{bytes_eq-Decides}
+use Rattle.std.specs.Prelude.{Option, Some, None, is_some, length, slice_get, cond, ◌&&◌, ◌||◌, not, ℤ, Result, Ok, Err, ◌+ℤ◌, ◌-ℤ◌, ◌*ℤ◌, neg_ℤ, int_le, int_div, int_rem, pos}
+use Rattle.std.specs.List.{AllByRecursion}
+use Rattle.std.specs.Option.{option_map, option_and_then}
+use Rattle.std.specs.Str.{bytes_eq}
+use Rattle.liszt_base.specs.Corners.{IsMesh}
+use Rattle.liszt_base.specs.Kinds.{has_set, kind_of}
+use Rattle.liszt_base.specs.MeshLists.{MeshLists}
+use Rattle.liszt_base.specs.declared.answers.Place.{Place}
+use Rattle.liszt_base.specs.declared.answers.TrapKind.{TrapKind}
+use Rattle.liszt_base.specs.declared.answers.TrapKind.TheVariants.{Overflow, ZeroDivide, NilElement, Spent}
+use Rattle.liszt_base.specs.declared.elements.Elem.{Elem}
+use Rattle.liszt_base.specs.declared.elements.Kind.{Kind}
+use Rattle.liszt_base.specs.declared.elements.Kind.TheVariants.{Vertex, Edge, Face, Cell}
+use Rattle.liszt_base.specs.declared.elements.SetName.{SetName}
+use Rattle.liszt_tree.specs.declared.tree.Fun.{Fun}
+use Rattle.liszt_tree.specs.declared.tree.Fun.TheVariants.{Head, Tail, Inside, Outside, Flip, Valid, Id}
+use Rattle.liszt_tree.specs.declared.tree.How.{How}
+use Rattle.liszt_tree.specs.declared.tree.Rel.{Rel}
+use Rattle.liszt_tree.specs.declared.tree.Rel.TheVariants.{Same, Other}
+use Rattle.liszt_tree.specs.declared.tree.Sign.{Sign}
+use Rattle.liszt_tree.specs.declared.tree.Sign.TheVariants.{Or, And, Plus, Minus, Times, Over, Rest}
+use Rattle.liszt_tree.specs.Tree.{Expression, Links, Statement, Body}
+use Rattle.mesh_topology.specs.Elements.{corner_lists, count}
+use Rattle.mesh_topology.proofs.Near.{vertex_count}
+use Rattle.topo_operators.specs.Operands.{IsElement, IsOf, CanVisit}
+use Rattle.topo_operators.specs.Operators.{head, tail, inside, outside, flip, valid, same, towards, members, unflipped, turned, points_to, tail_of, head_of, inside_of, outside_of}
+use Rattle.topo_operators.proofs.Results.{given, end_of, side_of, members_of}
+use Rattle.phase_types.specs.Names.{Names, Named, FieldName, ScalarName, LocalName, ElementName, named, is_built_in, Comprehension}
+use Rattle.phase_types.specs.Typed.{IsNew, StatementFits, FitsVar, FitsVal, FitsField, FitsScalar, FitsLocal, FitsIf, FitsWhile, FitsFor, BodyFits, FitsNothing, FitsThen, ComprehensionFits}
+use Rattle.phase_types.specs.Types.{ValueType, NumberType, TruthType, ElementType, call_type, operand_type, is_sameness, HasType, IsNumber, IsScalar, IsLocal, IsElement as IsElementName, IsField, IsCall, IsTowards, IsNeg, IsNot, IsChain, AreNumbers, AreElements, FollowsType, NoMore, OneMore}
+use Rattle.kernel_eval.specs.Fits.{IsBuiltIn, IsLive, EntryFits, StateFits}
+use Rattle.kernel_eval.specs.Iterations.{opening, iteration, end_of as run_end, iteration_end}
+use Rattle.kernel_eval.specs.Kept.{Keeps, field_values}
+use Rattle.kernel_eval.specs.Meaning.{Value, NumberValue, TruthValue, ElementValue, number_of, truth_of, element_of, fitting, divided, operated, is_decided, negated, denied, compared, holds, id_at, call_of, field_read, spot_of, held, is_in_range, meaning, meaning_behind, number_in, truth_in, element_in, assigned, field_assigned, name_assigned, in_block, moment_turns, each_member, statement_meaning, body_meaning, traps}
+use Rattle.kernel_eval.specs.Outcomes.{Stop, Trapped, NoMeaning, Outcome, Doing, gives, go_on, and_then, either, each, does_nothing, changes, taking_a_turn, loop_within, loop}
+use Rattle.kernel_eval.specs.States.{State, value_in, scalar_value, Moment, with_local, with_element, out_of_block, local_named, element_named}
+use Rattle.kernel_eval.proofs.Keeping.{keeps_then, element_keeps, keeps_body}
+use Rattle.kernel_eval.proofs.Shapes.{fits_again, same_locals, HasShape, like_itself, same_names, local_assigned, spot_set, reduced, with_turns, KeepsShape, out_again, shapes_kept}
+
+-- DOING ENDS: from what stands before, with an answer and what stands afterwards, or by a trap
+abbrev EndsIn : {A : Type 0} → (A → Type 0) → (Moment → Type 0) → Moment → Result A Stop → Type 0
+EndsIn V G after (Ok a) = V a × G after
+EndsIn V G after (Err (Trapped trap)) = Unit {0}
+EndsIn V G after (Err NoMeaning) = ⊥
+
+abbrev Comes : {A : Type 0} → (A → Type 0) → (Moment → Type 0) → Outcome Moment A → Type 0
+Comes V G outcome = EndsIn V G outcome.after outcome.answer
+
+record Ends {A : Type 0} (F : Moment → Type 0) (V : A → Type 0) (G : Moment → Type 0) (doing : Moment → Outcome Moment A) : Type 0 where
+  pub ends : (m : Moment) → F m → Comes V G (doing m)
+
+ends_go_on : {A B : Type 0} {V : A → Type 0} {W : B → Type 0} {G H : Moment → Type 0} {next : A → Moment → Outcome Moment B}
+    → ((a : A) → V a → Ends G W H (next a)) → (s : Moment) (answer : Result A Stop) → EndsIn V G s answer
+    → Comes W H (go_on next s answer)
+ends_go_on h s (Ok a) e = (h a e.0).ends s e.1
+ends_go_on h s (Err (Trapped trap)) e = tt
+ends_go_on h s (Err NoMeaning) e = e
+
+ends_then : {A B : Type 0} {V : A → Type 0} {W : B → Type 0} {F G H : Moment → Type 0} {first : Moment → Outcome Moment A} {next : A → Moment → Outcome Moment B}
+    → Ends F V G first → ((a : A) → V a → Ends G W H (next a)) → Ends F W H (and_then first next)
+ends_then {V = V} {W = W} {G = G} {H = H} {first = first} {next = next} f h =
+    record { ends = λ m e. ends_go_on {V = V} {W = W} {G = G} {H = H} {next = next} h (first m).after (first m).answer (f.ends m e) }
+
+ends_either : {A : Type 0} {V : A → Type 0} {F G : Moment → Type 0} {this other : Moment → Outcome Moment A} (b : Bool)
+    → Ends F V G this → Ends F V G other → Ends F V G (either b this other)
+ends_either true f g = f
+ends_either false f g = g
+
+ends_by_trap : {A : Type 0} {V : A → Type 0} {F G : Moment → Type 0} (kind : TrapKind) (place : Place) → Ends F V G (traps kind place)
+ends_by_trap kind place = record { ends = λ m e. tt }
+
+-- VALUES of a type
+data ValueFits (mesh : MeshLists) : ValueType → Value → Type 0 where
+  NumberFits : (n : ℤ) → ValueFits mesh NumberType (NumberValue n)
+  TruthFits : (b : Bool) → ValueFits mesh TruthType (TruthValue b)
+  ElementFits : {kind : Kind} (x : Option Elem) → IsOf mesh kind x → ValueFits mesh (ElementType kind) (ElementValue x)
+
+-- WHAT A NAME STANDS FOR in a moment, by what it stands for here and in the main program
+abbrev NameFits : MeshLists → Option Named → Bool → Option (Option Elem) → Option Named → Type 0
+NameFits mesh global is_local element (Some LocalName) = is_local ≡ true
+NameFits mesh global is_local element (Some (ElementName kind)) = (is_local ≡ false) × (x : Option Elem) × (element ≡ Some x) × IsOf mesh kind x
+NameFits mesh global is_local element (Some (ScalarName number)) = (is_local ≡ false) × (element ≡ None) × (global ≡ Some (ScalarName number))
+NameFits mesh global is_local element (Some (FieldName number kind)) = (is_local ≡ false) × (global ≡ Some (FieldName number kind))
+NameFits mesh global is_local element None = is_local ≡ false
+
+record MomentFits (mesh : MeshLists) (globals names : Names) (m : Moment) : Type 0 where
+  pub state_fits : StateFits mesh globals m.state
+  pub name_fits : (name : List ℕ) → NameFits mesh (named globals name) (is_some (local_named m name)) (element_named m name) (named names name)
+
+-- what is there
+some_is : {A : Type 0} (o : Option A) → is_some o ≡ true → (a : A) × (o ≡ Some a)
+some_is None e = absurd cc
+some_is (Some a) e = (a, refl)
+
+none_is : {A : Type 0} (o : Option A) → is_some o ≡ false → o ≡ None
+none_is None e = refl
+none_is (Some a) e = absurd cc
+
+got : {A : Type 0} (xs : List A) (i : ℕ) → i < length xs → (x : A) × (slice_get xs i ≡ Some x)
+got [] i l = absurd (omega (arith, l))
+got (x ∷ xs) zero l = (x, refl)
+got (x ∷ xs) (suc i) l = got xs i (omega (arith, l))
+
+module _ (mesh : MeshLists) (globals : Names) where
+  -- fields
+  below_six : (number : ℕ) (kind : Kind) → IsBuiltIn number kind → is_built_in number ≡ true
+  below_six number kind (inl is) = lt-ltb number 6 (omega (arith, is.0))
+  below_six number kind (inr is) = lt-ltb number 6 (omega (arith, is.0))
+
+  live_if_own : (s : State) (number : ℕ) (kind : Kind) → EntryFits mesh s (FieldName number kind) → is_built_in number ≡ false → IsLive mesh s number kind
+  live_if_own s number kind (inr live) own = live
+  live_if_own s number kind (inl is) own = let built = below_six number kind is in absurd cc
+
+  live_value : (s : State) (number : ℕ) (kind : Kind) (x : Elem) → IsLive mesh s number kind → x.id < count mesh kind
+      → (n : ℤ) × (value_in s.fields (spot_of number x) ≡ Some n)
+  live_value s number kind x live l = go (field_values s number) live.1 where
+    go : (values : Option (List ℤ)) → option_map (λ values. length values) values ≡ Some (count mesh kind)
+        → (n : ℤ) × (option_and_then (λ values. slice_get values x.id) values ≡ Some n)
+    go None e = absurd cc
+    go (Some values) e = let long : length values ≡ count mesh kind = cc in got values x.id (omega (arith, long, l))
+
+  held_value : (s : State) (number : ℕ) (kind : Kind) (x : Elem) → EntryFits mesh s (FieldName number kind) → x.id < count mesh kind
+      → (n : ℤ) × (held mesh s (spot_of number x) ≡ Some n)
+  held_value s number kind x (inr live) l = rw live.0 (live_value s number kind x live l)
+  held_value s number kind x (inl (inl is)) l =
+      let other : number ≢ 4 = omega (arith, is.0) in
+      let l' : x.id < count mesh Vertex = subst (λ kind. x.id < count mesh kind) is.1 l in
+      let p = got mesh.points x.id (omega (arith, vertex_count mesh, l')) in
+      rw (below_six number kind (inl is), ne_eqb number 4 other, p.1) (got (p.0.x ∷ p.0.y ∷ p.0.z ∷ p.0.mark ∷ []) number is.0)
+  held_value s number kind x (inl (inr is)) l =
+      let l' : x.id < count mesh Cell = subst (λ kind. x.id < count mesh kind) is.1 l in
+      let cell = got mesh.cells x.id (omega (arith, length-map mesh.cells (λ cell. cell.corners), l')) in
+      rw (is.0, cell.1) (cell.0.region, refl)
+
+  module _ (names : Names) where
+    abbrev Fits : Moment → Type 0
+    Fits m = MomentFits mesh globals names m
+
+    fits_at : {here : Option Named} {m : Moment} → Fits m → (name : List ℕ) → named names name ≡ here
+        → NameFits mesh (named globals name) (is_some (local_named m name)) (element_named m name) here
+    fits_at {m = m} f name is = subst (λ here. NameFits mesh (named globals name) (is_some (local_named m name)) (element_named m name) here) is (f.name_fits name)
+
+    fits_like : (m after : Moment) → HasShape m after → Fits m → Fits after
+    fits_like m after r f = record {
+      state_fits = fits_again r.like f.state_fits;
+      name_fits = λ name. rw (same_locals m after r name, r.elements) (f.name_fits name);
+    }
+
+    -- EXPRESSIONS
+    abbrev Gives : ValueType → Doing Moment Value → Type 0
+    Gives type doing = Ends Fits (ValueFits mesh type) Fits doing
+
+    given_value : {type : ValueType} {v : Value} → ValueFits mesh type v → Gives type (gives v)
+    given_value h = record { ends = λ m f. (h, f) }
+
+    number_fits : {v : Value} → ValueFits mesh NumberType v → Ends Fits (λ n. Unit {0}) Fits (number_of v)
+    number_fits (NumberFits n) = record { ends = λ m f. (tt, f) }
+
+    truth_fits : {v : Value} → ValueFits mesh TruthType v → Ends Fits (λ b. Unit {0}) Fits (truth_of v)
+    truth_fits (TruthFits b) = record { ends = λ m f. (tt, f) }
+
+    element_fits : {kind : Kind} {v : Value} → ValueFits mesh (ElementType kind) v → Ends Fits (IsOf mesh kind) Fits (element_of v)
+    element_fits (ElementFits x of) = record { ends = λ m f. (of, f) }
+
+    fitting_ends : (place : Place) (n : ℤ) → Gives NumberType (fitting place n)
+    fitting_ends place n = ends_either {this = gives (NumberValue n)} {other = traps Overflow place} (is_in_range n) (given_value (NumberFits n)) (ends_by_trap Overflow place)
+
+    divided_ends : (place : Place) (b : ℤ) {by : Doing Moment Value} → Gives NumberType by → Gives NumberType (divided place b by)
+    divided_ends place b h = ends_either {this = traps ZeroDivide place} (int_le b (pos 0) && int_le (pos 0) b) (ends_by_trap ZeroDivide place) h
+
+    operated_ends : (sign : Sign) (place : Place) {v w : Value} → ValueFits mesh (operand_type sign) v → ValueFits mesh (operand_type sign) w
+        → Gives (operand_type sign) (operated sign place v w)
+    operated_ends Or place (TruthFits a) (TruthFits b) = given_value (TruthFits (a || b))
+    operated_ends And place (TruthFits a) (TruthFits b) = given_value (TruthFits (a && b))
+    operated_ends Plus place (NumberFits a) (NumberFits b) = fitting_ends place (a +ℤ b)
+    operated_ends Minus place (NumberFits a) (NumberFits b) = fitting_ends place (a -ℤ b)
+    operated_ends Times place (NumberFits a) (NumberFits b) = fitting_ends place (a *ℤ b)
+    operated_ends Over place (NumberFits a) (NumberFits b) = divided_ends place b (fitting_ends place (int_div a b))
+    operated_ends Rest place (NumberFits a) (NumberFits b) = divided_ends place b (given_value (NumberFits (int_rem a b)))
+
+    operated_fits : {type : ValueType} (sign : Sign) (place : Place) → operand_type sign ≡ type → {v w : Value} → ValueFits mesh type v → ValueFits mesh type w
+        → Gives type (operated sign place v w)
+    operated_fits sign place is {v} {w} h g =
+        subst (λ type. ValueFits mesh type v → ValueFits mesh type w → Gives type (operated sign place v w)) is (operated_ends sign place) h g
+
+    negated_ends : (place : Place) {v : Value} → ValueFits mesh NumberType v → Gives NumberType (negated place v)
+    negated_ends place (NumberFits n) = fitting_ends place (neg_ℤ n)
+
+    denied_ends : {v : Value} → ValueFits mesh TruthType v → Gives TruthType (denied v)
+    denied_ends (TruthFits b) = given_value (TruthFits (not b))
+
+    numbers_compared : (rel : Rel) {v w : Value} → ValueFits mesh NumberType v → ValueFits mesh NumberType w → Gives TruthType (compared rel v w)
+    numbers_compared rel (NumberFits a) (NumberFits b) = given_value (TruthFits (holds rel a b))
+
+    elements_compared : {kind : Kind} (rel : Rel) → is_sameness rel ≡ true → {v w : Value} → ValueFits mesh (ElementType kind) v → ValueFits mesh (ElementType kind) w
+        → Gives TruthType (compared rel v w)
+    elements_compared Same is (ElementFits x a) (ElementFits y b) = given_value (TruthFits (same x y))
+    elements_compared Other is (ElementFits x a) (ElementFits y b) = given_value (TruthFits (not (same x y)))
+    elements_compared _ is a b = absurd cc
+
+    -- calls
+    flipped : (kind : Kind) (x : Option Elem) → IsOf mesh kind x → IsOf mesh kind (flip x)
+    flipped kind None of = of
+    flipped kind (Some x) of = of
+
+    id_ends : (place : Place) (x : Option Elem) → Gives NumberType (id_at place x)
+    id_ends place (Some x) = given_value (NumberFits (pos x.id))
+    id_ends place None = ends_by_trap NilElement place
+
+    abbrev CallEnds : Place → Fun → Option Elem → Option ValueType → Type 0
+    CallEnds place fun x (Some type) = Gives type (call_of mesh place fun x)
+    CallEnds place fun x None = Unit {0}
+
+    call_ends : (place : Place) (fun : Fun) (kind : Kind) (x : Option Elem) → IsOf mesh kind x → CallEnds place fun x (call_type fun kind)
+    call_ends place Head Edge x of =
+        given_value (ElementFits (head mesh x) (given mesh Edge Vertex (head_of mesh) (λ x. end_of mesh x (cond x.flipped 0 1)) x of))
+    call_ends place Tail Edge x of =
+        given_value (ElementFits (tail mesh x) (given mesh Edge Vertex (tail_of mesh) (λ x. end_of mesh x (cond x.flipped 1 0)) x of))
+    call_ends place Inside Face x of =
+        given_value (ElementFits (inside mesh x) (given mesh Face Cell (inside_of mesh) (λ x is. side_of mesh x (cond x.flipped 1 0)) x of))
+    call_ends place Outside Face x of =
+        given_value (ElementFits (outside mesh x) (given mesh Face Cell (outside_of mesh) (λ x is. side_of mesh x (cond x.flipped 0 1)) x of))
+    call_ends place Flip Edge x of = given_value (ElementFits (flip x) (flipped Edge x of))
+    call_ends place Flip Face x of = given_value (ElementFits (flip x) (flipped Face x of))
+    call_ends place Valid kind x of = given_value (TruthFits (valid x))
+    call_ends place Id kind x of = id_ends place x
+    call_ends place _ _ x of = tt
+
+    pointed : (kind : Kind) (x to : Option Elem) → IsOf mesh kind x → IsOf mesh kind (towards mesh x to)
+    pointed kind None to of = tt
+    pointed kind (Some x) None of = tt
+    pointed kind (Some x) (Some to) of =
+        one (same (points_to mesh (unflipped x.kind x.id)) (Some to)) (same (points_to mesh (turned (unflipped x.kind x.id))) (Some to)) where
+          one : (b c : Bool) → IsOf mesh kind (cond b (Some (unflipped x.kind x.id)) (cond c (Some (turned (unflipped x.kind x.id))) None))
+          one true c = of
+          one false true = of
+          one false false = tt
+
+    -- fields
+    field_read_ends : (place : Place) (number : ℕ) (kind : Kind) (x : Option Elem) (m : Moment) → IsOf mesh kind x → Fits m
+        → EntryFits mesh m.state (FieldName number kind) → Comes (ValueFits mesh NumberType) Fits (field_read mesh place (Some (FieldName number kind)) x m)
+    field_read_ends place number kind None m of f is = tt
+    field_read_ends place number kind (Some x) m of f is =
+        let n = held_value m.state number kind x is of.1 in
+        rw n.1 (NumberFits n.0, fits_like m _ (same_names m _ (like_itself m.state) refl refl) f)
+
+    field_ends : (place : Place) (name : List ℕ) (number : ℕ) (kind : Kind) (x : Option Elem) → named names name ≡ Some (FieldName number kind) → IsOf mesh kind x
+        → Gives NumberType (field_read mesh place (named globals name) x)
+    field_ends place name number kind x is of = record {
+      ends = λ m f.
+          let global = (fits_at f name is).1 in
+          rw global (field_read_ends place number kind x m of f (f.state_fits.entry_fits name _ global));
+    }
+
+    mutual
+      means : {e : Expression} {type : ValueType} → HasType names e type → Gives type (meaning mesh globals e)
+      means (IsNumber place n) = given_value (NumberFits n)
+      means (IsScalar {number = number} place name is) = record {
+        ends = λ m f.
+            let h = fits_at f name is in
+            let n = some_is (scalar_value m.state number) (f.state_fits.entry_fits name _ h.2) in
+            rw (none_is _ h.0, h.1, h.2, n.1) (NumberFits n.0, f);
+      }
+      means (IsLocal place name is) = record {
+        ends = λ m f. let n = some_is (local_named m name) (fits_at f name is) in rw n.1 (NumberFits n.0, f);
+      }
+      means (IsElementName place name is) = record {
+        ends = λ m f. let h = fits_at f name is in rw (none_is _ h.0, h.2) (ElementFits h.1 h.3, f);
+      }
+      means (IsField {number = number} {kind = kind} place name is h) =
+          ends_then (means h) (λ v fits. ends_then (element_fits fits) (λ x of. field_ends place name number kind x is of))
+      means (IsCall {kind = kind} place fun h is) =
+          ends_then (means h) (λ v fits. ends_then (element_fits fits) (λ x of. subst (CallEnds place fun x) is (call_ends place fun kind x of)))
+      means (IsTowards {kind = kind} place h to can) =
+          ends_then (means h) (λ v fits. ends_then (element_fits fits) (λ x of. ends_then (means to) (λ w fits'.
+          ends_then (element_fits fits') (λ y of'. given_value (ElementFits (towards mesh x y) (pointed kind x y of))))))
+      means (IsNeg place h) = ends_then (means h) (λ v fits. negated_ends place fits)
+      means (IsNot place h) = ends_then (means h) (λ v fits. denied_ends fits)
+      means (IsChain level h more) = ends_then (means h) (λ v fits. means_behind fits more)
+      means (AreNumbers place rel h to) = ends_then (means h) (λ v fits. ends_then (means to) (λ w fits'. numbers_compared rel fits fits'))
+      means (AreElements place rel h to same) = ends_then (means h) (λ v fits. ends_then (means to) (λ w fits'. elements_compared rel same fits fits'))
+
+      means_behind : {v : Value} {type : ValueType} {links : Links} → ValueFits mesh type v → FollowsType names type links
+          → Gives type (meaning_behind mesh globals v links)
+      means_behind fits (NoMore type) = given_value fits
+      means_behind {v = v} fits (OneMore sign place is h more) =
+          ends_then (ends_either (is_decided sign v) (given_value fits) (ends_then (means h) (λ w fits'. operated_fits sign place is fits fits')))
+          (λ u fits'. means_behind fits' more)
+
+    number_ends : {e : Expression} → HasType names e NumberType → Ends Fits (λ n. Unit {0}) Fits (number_in mesh globals e)
+    number_ends h = ends_then (means h) (λ v fits. number_fits fits)
+
+    truth_ends : {e : Expression} → HasType names e TruthType → Ends Fits (λ b. Unit {0}) Fits (truth_in mesh globals e)
+    truth_ends h = ends_then (means h) (λ v fits. truth_fits fits)
+
+    element_ends : (kind : Kind) {e : Expression} → HasType names e (ElementType kind) → Ends Fits (IsOf mesh kind) Fits (element_in mesh globals e)
+    element_ends kind h = ends_then (means h) (λ v fits. element_fits fits)
+
+    -- STATEMENTS
+    abbrev Does : Names → Doing Moment (Unit {0}) → Type 0
+    Does behind doing = Ends Fits (λ done. Unit {0}) (MomentFits mesh globals behind) doing
+
+    local_ends : (name : List ℕ) (n : ℤ) → Does ((name, LocalName) ∷ names) (changes (with_local name n))
+    local_ends name n = record {
+      ends = λ m f. (
+        tt,
+        record {
+          state_fits = f.state_fits;
+          name_fits = λ other. elim (cases_Bool (bytes_eq other name)) [
+            | inl is ↦ rw is refl
+            | inr is ↦ rw is (f.name_fits other)
+          ];
+        },
+      );
+    }
+
+    named_ends : (name : List ℕ) (kind : Kind) (x : Option Elem) → IsNew names name → IsOf mesh kind x
+        → Does ((name, ElementName kind) ∷ names) (changes (with_element name x))
+    named_ends name kind x new of = record {
+      ends = λ m f. (
+        tt,
+        record {
+          state_fits = f.state_fits;
+          name_fits = λ other. elim (cases_Bool (bytes_eq other name)) [
+            | inl is ↦ rw (is, (bytes_eq-Decides other name).0 is) (fits_at f name new, x, refl, of)
+            | inr is ↦ rw is (f.name_fits other)
+          ];
+        },
+      );
+    }
+
+    -- assignments
+    spot_set_ends : (place : Place) (how : How) (number : ℕ) (kind : Kind) (n : ℤ) (x : Option Elem) (m : Moment) → IsOf mesh kind x → Fits m
+        → IsLive mesh m.state number kind → Comes (λ done. Unit {0}) Fits (field_assigned place how (Some (FieldName number kind)) n x m)
+    spot_set_ends place how number kind n None m of f live = tt
+    spot_set_ends place how number kind n (Some x) m of f live =
+        let old = live_value m.state number kind x live of.1 in rw old.1 (tt, fits_like m _ (spot_set (spot_of number x) how n old.0 m) f)
+
+    field_set_ends : (place : Place) (name : List ℕ) (how : How) (number : ℕ) (kind : Kind) (n : ℤ) (x : Option Elem)
+        → named names name ≡ Some (FieldName number kind) → is_built_in number ≡ false → IsOf mesh kind x
+        → Does names (field_assigned place how (named globals name) n x)
+    field_set_ends place name how number kind n x is own of = record {
+      ends = λ m f.
+          let global = (fits_at f name is).1 in
+          rw global (spot_set_ends place how number kind n x m of f (live_if_own m.state number kind (f.state_fits.entry_fits name _ global) own));
+    }
+
+    scalar_set_ends : (name : List ℕ) (how : How) (n : ℤ) (number : ℕ) → named names name ≡ Some (ScalarName number)
+        → Does names (λ m. name_assigned name how n (local_named m name) (named globals name) m)
+    scalar_set_ends name how n number is = record {
+      ends = λ m f.
+          let h = fits_at f name is in
+          let old = some_is (scalar_value m.state number) (f.state_fits.entry_fits name _ h.2) in
+          rw (none_is _ h.0, h.2, old.1) (tt, fits_like m _ (reduced how n number old.0 m) f);
+    }
+
+    local_set_ends : (name : List ℕ) (how : How) (n : ℤ) → named names name ≡ Some LocalName
+        → Does names (λ m. name_assigned name how n (local_named m name) (named globals name) m)
+    local_set_ends name how n is = record {
+      ends = λ m f.
+          let old = some_is (local_named m name) (fits_at f name is) in
+          rw old.1 (tt, fits_like m _ (local_assigned name (assigned how old.0 n) m) f);
+    }
+
+    -- blocks and loops
+    behind_block : (before s : Moment) → Fits before → KeepsShape before s → (answer : Result (Unit {0}) Stop)
+        → EndsIn (λ done. Unit {0}) (λ m. Unit {0}) s answer → Comes (λ done. Unit {0}) Fits (go_on (λ done. changes (out_of_block before)) s answer)
+    behind_block before s f r (Ok done) e = (tt, fits_like before _ (out_again before s r) f)
+    behind_block before s f r (Err (Trapped trap)) e = tt
+    behind_block before s f r (Err NoMeaning) e = e
+
+    block_ends : {body : Doing Moment (Unit {0})} → Keeps KeepsShape body → Ends Fits (λ done. Unit {0}) (λ m. Unit {0}) body
+        → Does names (in_block body)
+    block_ends {body = body} k h = record { ends = λ m f. behind_block m (body m).after f (k.kept m) (body m).answer (h.ends m f) }
+
+    nothing_ends : Does names does_nothing
+    nothing_ends = record { ends = λ m f. (tt, f) }
+
+    turn_taken : (place : Place) {body : Doing Moment (Unit {0})} → Does names body → (left : ℕ) (m : Moment) → Fits m
+        → Comes (λ done. Unit {0}) Fits (taking_a_turn moment_turns (traps Spent place) body left m)
+    turn_taken place h zero m f = tt
+    turn_taken place h (suc n) m f = h.ends _ (fits_like m _ (with_turns n m) f)
+
+    turn_ends : (place : Place) {body : Doing Moment (Unit {0})} → Does names body
+        → Does names (λ m. taking_a_turn moment_turns (traps Spent place) body (moment_turns.left m) m)
+    turn_ends place h = record { ends = λ m f. turn_taken place h m.state.turns m f }
+
+    within_ends : (place : Place) {test : Doing Moment Bool} {body : Doing Moment (Unit {0})} → Ends Fits (λ b. Unit {0}) Fits test
+        → Does names body → (bound : ℕ) → Does names (loop_within moment_turns (traps Spent place) test body bound)
+    within_ends place t h zero = ends_then t (λ b any. ends_either b (ends_by_trap Spent place) nothing_ends)
+    within_ends place t h (suc n) =
+        ends_then t (λ b any. ends_either b (ends_then (turn_ends place h) (λ done any. within_ends place t h n)) nothing_ends)
+
+    loop_ends : (place : Place) {test : Doing Moment Bool} {body : Doing Moment (Unit {0})} → Ends Fits (λ b. Unit {0}) Fits test
+        → Does names body → Does names (loop moment_turns (traps Spent place) test body)
+    loop_ends place t h = record { ends = λ m f. (within_ends place t h m.state.turns).ends m f }
+
+    each_ends : (kind : Kind) {doing : Elem → Doing Moment (Unit {0})} → ((x : Elem) → IsElement mesh kind x → Does names (doing x))
+        → (xs : List Elem) → AllByRecursion (IsElement mesh kind) xs → Does names (each doing xs)
+    each_ends kind h [] all = nothing_ends
+    each_ends kind h (x ∷ xs) all = ends_then (h x all.0) (λ done any. each_ends kind h xs all.1)
+
+  module _ (is_mesh : IsMesh (length mesh.points) (corner_lists mesh)) where
+    can_visit : (kind : Kind) (set : SetName) (x : Elem) → IsElement mesh kind x → has_set kind set ≡ true → CanVisit mesh set x
+    can_visit kind set x is has = record { in_range = rw is.0 is.1; has = rw is.0 has }
+
+    members_end : (names : Names) (place : Place) (kind : Kind) (set : SetName) (body : Option Elem → Doing Moment (Unit {0})) (x : Option Elem) → IsOf mesh kind x
+        → has_set kind set ≡ true → ((member : Elem) → IsElement mesh (kind_of set) member → Does names names (in_block (body (Some member))))
+        → Does names names (each_member mesh place body (members mesh set) x)
+    members_end names place kind set body None of has h = ends_by_trap NilElement place
+    members_end names place kind set body (Some x) of has h =
+        each_ends names (kind_of set) h (members mesh set x) (members_of mesh set x is_mesh (can_visit kind set x of has))
+
+    body_keeps : (body : Body) → Keeps KeepsShape (body_meaning mesh globals body)
+    body_keeps body = keeps_body shapes_kept mesh globals body (λ a t. tt)
+
+    abbrev on_member : List ℕ → Body → Option Elem → Doing Moment (Unit {0})
+    on_member name body member = and_then (changes (with_element name member)) (λ done. body_meaning mesh globals body)
+
+    member_keeps : (name : List ℕ) (body : Body) (member : Option Elem) → Keeps KeepsShape (on_member name body member)
+    member_keeps name body member = keeps_then shapes_kept (element_keeps shapes_kept name member) (λ done. body_keeps body)
+
+    mutual
+      statement_ends : {names behind : Names} {s : Statement} → StatementFits names s behind → Does names behind (statement_meaning mesh globals s)
+      statement_ends {names = names} (FitsVar place name at h new) = ends_then (number_ends names h) (λ n any. local_ends names name n)
+      statement_ends {names = names} (FitsVal {kind = kind} place name at h new) = ends_then (element_ends names kind h) (λ x of. named_ends names name kind x new of)
+      statement_ends {names = names} (FitsField {number = number} {kind = kind} place name how is own h value) =
+          ends_then (number_ends names value) (λ n any. ends_then (element_ends names kind h) (λ x of. field_set_ends names place name how number kind n x is own of))
+      statement_ends {names = names} (FitsScalar {number = number} place name how is reduces value) =
+          ends_then (number_ends names value) (λ n any. scalar_set_ends names name how n number is)
+      statement_ends {names = names} (FitsLocal place name how is value) = ends_then (number_ends names value) (λ n any. local_set_ends names name how n is)
+      statement_ends {names = names} (FitsIf {first = first} {second = second} place has_else h this other) =
+          ends_then (truth_ends names h) (λ b any. ends_either b (block_ends names (body_keeps first) (body_ends this)) (block_ends names (body_keeps second) (body_ends other)))
+      statement_ends {names = names} (FitsWhile {body = body} place h fits) =
+          loop_ends names place (truth_ends names h) (block_ends names (body_keeps body) (body_ends fits))
+      statement_ends {names = names} (FitsFor {kind = kind} {body = body} place name at set set_at h has new fits) =
+          ends_then (element_ends names kind h) (λ x of. members_end names set_at kind set (on_member name body) x of has
+          (λ member is. block_ends names (member_keeps name body (Some member))
+          (ends_then (named_ends names name (kind_of set) (Some member) new is) (λ done any. body_ends fits))))
+
+      body_ends : {names : Names} {body : Body} → BodyFits names body → Ends (Fits names) (λ done. Unit {0}) (λ m. Unit {0}) (body_meaning mesh globals body)
+      body_ends (FitsNothing names) = record { ends = λ m f. (tt, tt) }
+      body_ends (FitsThen s more) = ends_then (statement_ends s) (λ done any. body_ends more)
+
+-- AN ITERATION
+is_an_end : {A : Type 0} (after : Moment) (answer : Result A Stop) → EndsIn {A = A} (λ a. Unit {0}) (λ m. Unit {0}) after answer → is_some (run_end answer) ≡ true
+is_an_end after (Ok a) e = refl
+is_an_end after (Err (Trapped trap)) e = refl
+is_an_end after (Err NoMeaning) e = absurd e
+
+at_first : (mesh : MeshLists) (s : State) (global : Option Named) → ((entry : Named) → global ≡ Some entry → EntryFits mesh s entry)
+    → NameFits mesh global false None global
+at_first mesh s None h = refl
+at_first mesh s (Some (FieldName number kind)) h = (refl, refl)
+at_first mesh s (Some (ScalarName number)) h = (refl, refl, refl)
+at_first mesh s (Some LocalName) h = absurd (h LocalName refl)
+at_first mesh s (Some (ElementName kind)) h = absurd (h (ElementName kind) refl)
+
+opening_fits : (mesh : MeshLists) (c : Comprehension) (turns : ℕ) (s : State) (id : ℕ) → StateFits mesh c.names s → id < count mesh c.over
+    → MomentFits mesh c.names ((c.name, ElementName c.over) ∷ c.names) (opening c turns s id)
+opening_fits mesh c turns s id h l = record {
+  state_fits = fits_again (record { fields = refl; scalars = refl }) h;
+  name_fits = λ name. elim (cases_Bool (bytes_eq name c.name)) [
+    | inl is ↦ rw is (refl, Some (unflipped c.over id), refl, (refl, l))
+    | inr is ↦ rw is (at_first mesh s (named c.names name) (h.entry_fits name))
+  ];
+}
+
+pub iteration_ends : (mesh : MeshLists) (c : Comprehension) (turns : ℕ) (s : State) (id : ℕ) → IsMesh (length mesh.points) (corner_lists mesh)
+    → ComprehensionFits c → StateFits mesh c.names s → id < count mesh c.over → is_some (iteration_end mesh c turns s id) ≡ true
+iteration_ends mesh c turns s id is_mesh fits h l =
+    is_an_end (iteration mesh c turns s id).after (iteration mesh c turns s id).answer
+    ((body_ends mesh c.names is_mesh fits.body_fits).ends (opening c turns s id) (opening_fits mesh c turns s id h l))
+
+pub iteration_fits : (mesh : MeshLists) (c : Comprehension) (turns : ℕ) (s : State) (id : ℕ) → StateFits mesh c.names s
+    → StateFits mesh c.names (iteration mesh c turns s id).after.state
+iteration_fits mesh c turns s id h =
+    let kept = (keeps_body shapes_kept mesh c.names c.body (λ a t. tt)).kept (opening c turns s id) in
+    fits_again (record { fields = kept.like.fields; scalars = kept.like.scalars }) h

@@ -1,0 +1,28 @@
+-- What it is for a state to fit names. This project's own.
+use Rattle.std.specs.Prelude.{◌≡◌, ℕ, ◌<◌, ◌⊎◌, true, false, is_some, Some, List, length}
+use Rattle.std.specs.Option.{option_map}
+use Rattle.liszt_base.specs.MeshLists.{MeshLists}
+use Rattle.liszt_base.specs.declared.elements.Kind.{Kind}
+use Rattle.liszt_base.specs.declared.elements.Kind.TheVariants.{Vertex, Cell}
+use Rattle.mesh_topology.specs.Elements.{count}
+use Rattle.phase_types.specs.Names.{Names, Named, FieldName, ScalarName, named, is_built_in}
+use Rattle.kernel_eval.specs.Kept.{field_values}
+use Rattle.kernel_eval.specs.States.{State, scalar_value}
+
+-- a built-in field, with its elements' kind
+abbrev pub IsBuiltIn : ℕ → Kind → Type 0
+IsBuiltIn number kind = ((number < 4) × (kind ≡ Vertex)) ⊎ ((number ≡ 4) × (kind ≡ Cell))
+
+-- a declared field, which has a value for each of its elements
+abbrev pub IsLive : MeshLists → State → ℕ → Kind → Type 0
+IsLive mesh s number kind = (is_built_in number ≡ false) × (option_map (λ values. length values) (field_values s number) ≡ Some (count mesh kind))
+
+-- A STATE FITS what a name stands for in the main program: a scalar has a number there, and a field is built in or live. Local numbers and
+-- elements aren't names of the main program.
+abbrev pub EntryFits : MeshLists → State → Named → Type 0
+EntryFits mesh s (ScalarName number) = is_some (scalar_value s number) ≡ true
+EntryFits mesh s (FieldName number kind) = IsBuiltIn number kind ⊎ IsLive mesh s number kind
+EntryFits mesh s _ = ⊥
+
+pub record StateFits (mesh : MeshLists) (names : Names) (s : State) : Type 0 where
+  pub entry_fits : (name : List ℕ) (entry : Named) → named names name ≡ Some entry → EntryFits mesh s entry
