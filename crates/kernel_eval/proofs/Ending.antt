@@ -39,7 +39,8 @@ use Rattle.kernel_eval.specs.Kept.{Keeps, field_values}
 use Rattle.kernel_eval.specs.Meaning.{Value, NumberValue, TruthValue, ElementValue, number_of, truth_of, element_of, fitting, divided, operated, is_decided, negated, denied, compared, holds, id_at, call_of, field_read, spot_of, held, is_in_range, meaning, meaning_behind, number_in, truth_in, element_in, assigned, field_assigned, name_assigned, in_block, moment_turns, each_member, statement_meaning, body_meaning, traps}
 use Rattle.kernel_eval.specs.Outcomes.{Stop, Trapped, NoMeaning, Outcome, Doing, gives, go_on, and_then, either, each, does_nothing, changes, taking_a_turn, loop_within, loop}
 use Rattle.kernel_eval.specs.States.{State, value_in, scalar_value, Moment, with_local, with_element, out_of_block, local_named, element_named}
-use Rattle.kernel_eval.proofs.Keeping.{keeps_then, element_keeps, keeps_body}
+use Rattle.kernel_eval.proofs.Doing.{keeps_then}
+use Rattle.kernel_eval.proofs.Keeping.{leads, element_keeps, keeps_body}
 use Rattle.kernel_eval.proofs.Shapes.{fits_again, same_locals, HasShape, like_itself, same_names, local_assigned, spot_set, reduced, with_turns, KeepsShape, out_again, shapes_kept}
 
 -- DOING ENDS: from what stands before, with an answer and what stands afterwards, or by a trap
@@ -423,7 +424,7 @@ module _ (mesh : MeshLists) (globals : Names) where
     on_member name body member = and_then (changes (with_element name member)) (λ done. body_meaning mesh globals body)
 
     member_keeps : (name : List ℕ) (body : Body) (member : Option Elem) → Keeps KeepsShape (on_member name body member)
-    member_keeps name body member = keeps_then shapes_kept (element_keeps shapes_kept name member) (λ done. body_keeps body)
+    member_keeps name body member = keeps_then (leads shapes_kept) (element_keeps shapes_kept name member) (λ done. body_keeps body)
 
     mutual
       statement_ends : {names behind : Names} {s : Statement} → StatementFits names s behind → Does names behind (statement_meaning mesh globals s)

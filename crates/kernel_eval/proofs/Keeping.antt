@@ -88,7 +88,7 @@ module _ {P : Access → Type 0} {R : Moment → Moment → Type 0} (k : IsKept 
   abbrev Only : (Access → Type 0) → Type 0
   Only Touched = (a : Access) → Touched a → P a
 
-  leads : LeadsOn R
+  pub leads : LeadsOn R
   leads = record { same = k.same; later = k.later }
 
   -- single steps of expressions
