@@ -1,8 +1,10 @@
 -- The sets that begin with each number, one number after the other.
-use Rattle.std.proofs.Common.{◌≡◌, ◌↔◌, ℕ, ◌+◌, ◌<◌, ◌^◌, true, Bool, List, [], ◌∷◌, ◌++◌, length, map, take, get_or, filter, flat_map, All, AllPairs, Contains, refl, sym, ap, subst, ◌∙◌, inl, inr, arith, eqb-true, eq-eqb, ltb-true, lt-ltb}
+use Rattle.std.proofs.Common.{◌≡◌, ◌↔◌, ◌⊎◌, ℕ, ◌+◌, ◌*◌, ◌/◌, ◌%◌, ◌<◌, ◌^◌, true, Bool, List, [], ◌∷◌, ◌++◌, length, map, take, get_or, filter, flat_map, All, AllPairs, Contains, refl, sym, ap, subst, ◌∙◌, inl, inr, arith, eqb-true, eq-eqb, ltb-true, lt-ltb}
 use Rattle.std.specs.List.{AllZip}
 use Rattle.std.proofs.lemmas.Bool.{cases_eq}
 use Rattle.std.proofs.lemmas.List.{flat_map_more, take_more}
+use Rattle.std.proofs.lemmas.Nat.{div-mul-add, mod-mul-add}
+use Rattle.std.proofs.Math.Nat.{div-add-mod, mod-lt}
 use Rattle.liszt_base.specs.Corners.{is_in}
 use Rattle.liszt_base.specs.MeshLists.{MeshLists}
 use Rattle.liszt_base.specs.declared.elements.Kind.TheVariants.{Vertex, Cell}
@@ -10,7 +12,7 @@ use Rattle.liszt_base.specs.declared.mesh.RawCell.{RawCell}
 use Rattle.mesh_topology.specs.Choices.{begins_with, choices, first_of, IsAscending, IsTableBelow, IsTableOf}
 use Rattle.mesh_topology.specs.Elements.{numbers, count}
 use Rattle.mesh_topology.specs.Tables.{IsSmallMesh}
-use Rattle.mesh_topology.specs.Incidence.{above_in, begun_in, is_above, pair, turned, AreCellsOfEach, CanTurn, IsSetOf}
+use Rattle.mesh_topology.specs.Incidence.{above_in, begun_in, is_above, key, keys_in, pair, triple, turned, AreCellsOfEach, CanTurn, IsSetOf}
 use Rattle.mesh_topology.proofs.Sets.{Member, in_member, member_in, member_at, member_contained, contained_member, member_left, member_right, member_parted, member_flat, member_flattened, member_map, member_mapped, member_kept, member_of_kept}
 use Rattle.mesh_topology.proofs.Rising.{all_pairs, pairs_of, pairs_append, pairs_map, Before, before_first, before_more}
 use Rattle.mesh_topology.proofs.Chosen.{choice_is, is_choice, Rises}
@@ -21,12 +23,12 @@ use Rattle.mesh_topology.proofs.Uppers.{can_turn}
 use Rattle.mesh_topology.proofs.Turned.{turned_at, turned_long}
 
 -- a row more
-pub begun_more : (size : ℕ) (rows : List (List ℕ)) (first : ℕ) (ids : List ℕ) (i : ℕ) (sets mid new : List (List ℕ)) → i < length ids → sets ≡ choices size (get_or rows (get_or ids i 0) [])
-    → mid ≡ begun_in size rows first (take i ids) → new ≡ mid ++ filter (begins_with first) sets → new ≡ begun_in size rows first (take (i + 1) ids)
-begun_more size rows first ids i sets mid new l one so is =
-    let f = λ (id : ℕ). filter (begins_with first) (choices size (get_or rows id [])) in
-    is ∙ (ap (λ xs. xs ++ filter (begins_with first) sets) so ∙ (ap (λ xs. begun_in size rows first (take i ids) ++ filter (begins_with first) xs) one
-    ∙ (flat_map_more f [] (take i ids) (get_or ids i 0) ∙ ap (λ xs. begun_in size rows first xs) (sym (take_more ids i 0 l)))))
+pub keys_more : (rows : List (List ℕ)) (first : ℕ) (ids : List ℕ) (i : ℕ) (sets : List (List ℕ)) (mid new : List ℕ) → i < length ids → sets ≡ choices 3 (get_or rows (get_or ids i 0) [])
+    → mid ≡ keys_in rows first (take i ids) → new ≡ mid ++ map key (filter (begins_with first) sets) → new ≡ keys_in rows first (take (i + 1) ids)
+keys_more rows first ids i sets mid new l one so is =
+    let f = λ (id : ℕ). map key (filter (begins_with first) (choices 3 (get_or rows id []))) in
+    is ∙ (ap (λ xs. xs ++ map key (filter (begins_with first) sets)) so ∙ (ap (λ xs. keys_in rows first (take i ids) ++ map key (filter (begins_with first) xs)) one
+    ∙ (flat_map_more f [] (take i ids) (get_or ids i 0) ∙ ap (λ xs. keys_in rows first xs) (sym (take_more ids i 0 l)))))
 
 -- what a set with a later first number comes behind
 before_later : (v : ℕ) (a b : List ℕ) → first_of a < v → first_of b ≡ v → Before a b
@@ -201,3 +203,86 @@ pairs_above cells lists v above h l is = record { ordered = ordered; members = �
           let flat = member_flat f (get_or lists v []) id y m kept in
           let here = member_contained above y ((is.members y).1 (contained_member (above_in cells v (get_or lists v [])) y flat)) in
           subst (λ n. Contains (map (pair v) above) (n ∷ y ∷ [])) (sym e) (contained_member (map (pair v) above) (v ∷ y ∷ []) (member_map (pair v) above y here))
+
+-- the triples of a number that have some keys are the choices that begin with it
+key_less : (x y : ℕ) → x < y → (x / 2 ^ 32 < y / 2 ^ 32) ⊎ ((x / 2 ^ 32 ≡ y / 2 ^ 32) × (x % 2 ^ 32 < y % 2 ^ 32))
+key_less x y l =
+    let under_x : x % 2 ^ 32 < 2 ^ 32 = mod-lt x (omega arith) in
+    let under_y : y % 2 ^ 32 < 2 ^ 32 = mod-lt y (omega arith) in
+    let whole_x : 2 ^ 32 * (x / 2 ^ 32) + x % 2 ^ 32 ≡ x = div-add-mod x (2 ^ 32) in
+    let whole_y : 2 ^ 32 * (y / 2 ^ 32) + y % 2 ^ 32 ≡ y = div-add-mod y (2 ^ 32) in
+    elim (cases_eq (x / 2 ^ 32) (y / 2 ^ 32)) [
+      | inl e ↦ inr (e, omega (arith, e, l, whole_x, whole_y))
+      | inr ne ↦ inl (omega (arith, ne, l, whole_x, whole_y, under_x, under_y))
+    ]
+
+triple_before : (v x y : ℕ) → x < y → Before (triple v x) (triple v y)
+triple_before v x y l = before_more v (x / 2 ^ 32 ∷ x % 2 ^ 32 ∷ []) (y / 2 ^ 32 ∷ y % 2 ^ 32 ∷ []) (elim (key_less x y l) [
+  | inl r ↦ before_first (x / 2 ^ 32) (y / 2 ^ 32) (x % 2 ^ 32 ∷ []) (y % 2 ^ 32 ∷ []) r
+  | inr p ↦ subst (λ n. Before (x / 2 ^ 32 ∷ x % 2 ^ 32 ∷ []) (n ∷ y % 2 ^ 32 ∷ [])) p.0
+      (before_more (x / 2 ^ 32) (x % 2 ^ 32 ∷ []) (y % 2 ^ 32 ∷ []) (before_first (x % 2 ^ 32) (y % 2 ^ 32) [] [] p.1))
+])
+
+triple_of_key : (v b c : ℕ) → c < 2 ^ 32 → triple v (key (v ∷ b ∷ c ∷ [])) ≡ v ∷ b ∷ c ∷ []
+triple_of_key v b c l =
+    ap (λ n. v ∷ n ∷ (b * 2 ^ 32 + c) % 2 ^ 32 ∷ []) (div-mul-add b (2 ^ 32) c l) ∙ ap (λ n. v ∷ b ∷ n ∷ []) (mod-mul-add b (2 ^ 32) c l)
+
+pub triples_of_keys : (cells lists : List (List ℕ)) (v : ℕ) (keys : List ℕ) → AreCellsOfEach cells lists → v < length lists → IsSetOf (keys_in cells v (get_or lists v [])) keys
+    → IsTableOf (begun_in 3 cells v (get_or lists v [])) (map (triple v) keys)
+triples_of_keys cells lists v keys h l is = record { ordered = ordered; members = λ set. (there set, back set) } where
+  g : ℕ → List (List ℕ)
+  g id = filter (begins_with v) (choices 3 (get_or cells id []))
+
+  f : ℕ → List ℕ
+  f id = map key (g id)
+
+  has : ℕ → Bool
+  has id = is_in (get_or cells id []) v
+
+  ids : get_or lists v [] ≡ filter has (numbers 0 (length cells))
+  ids = ap (λ xs. get_or xs v []) h.are ∙ turned_at cells (length lists) v l
+
+  cell : (id : ℕ) → Member id (get_or lists v []) → id < length cells
+  cell id m = range_below (length cells) id (member_of_kept has (numbers 0 (length cells)) id (subst (λ xs. Member id xs) ids m)).0
+
+  -- a triple is the triple of its key
+  restored : (id : ℕ) → Member id (get_or lists v []) → (set : List ℕ) → Member set (g id) → triple v (key set) ≡ set
+  restored id m set s =
+      let k = member_of_kept (begins_with v) (choices 3 (get_or cells id [])) set s in
+      let one = choice_is 3 (get_or cells id []) set (pairs_of (λ x y. x < y) (get_or cells id []) (h.can.rises id [] (cell id m))) k.0 in
+      go set one.size_is one.inside (eqb-true (first_of set) v k.1)
+    where
+      small : (x : ℕ) → Member x (get_or cells id []) → x < 2 ^ 32
+      small x inside =
+          let at = placed (get_or cells id []) x 0 inside in
+          let b = h.can.below id [] (cell id m) at.0 0 at.1 in
+          let e = at.2 in
+          let few = h.few in
+          omega arith
+
+      go : (set : List ℕ) → length set ≡ 3 → ((x : ℕ) → Member x set → Member x (get_or cells id [])) → first_of set ≡ v → triple v (key set) ≡ set
+      go [] n inside e = absurd (omega arith)
+      go (a ∷ []) n inside e = absurd (omega arith)
+      go (a ∷ b ∷ []) n inside e = absurd (omega arith)
+      go (a ∷ b ∷ c ∷ d ∷ more) n inside e = absurd (omega arith)
+      go (a ∷ b ∷ c ∷ []) n inside e = triple_of_key v b c (small c (inside c (inr (inr (inl refl))))) ∙ ap (λ x. x ∷ b ∷ c ∷ []) (sym e)
+
+  ordered : AllPairs Before (map (triple v) keys)
+  ordered = all_pairs Before (map (triple v) keys) (pairs_map (λ x y. x < y) Before (triple v) keys (triple_before v) (pairs_of (λ x y. x < y) keys is.rises))
+
+  there : (set : List ℕ) → Contains (map (triple v) keys) set → Contains (begun_in 3 cells v (get_or lists v [])) set
+  there set c =
+      let t = member_mapped (triple v) keys set (member_contained (map (triple v) keys) set c) in
+      let m = member_flattened f (get_or lists v []) t.0 (member_contained (keys_in cells v (get_or lists v [])) t.0 ((is.members t.0).0 (contained_member keys t.0 t.1))) in
+      let s = member_mapped key (g m.0) t.0 m.2 in
+      let same : s.0 ≡ set = sym (restored m.0 m.1 s.0 s.1) ∙ ap (triple v) s.2 ∙ t.2 in
+      subst (λ s. Contains (begun_in 3 cells v (get_or lists v [])) s) same
+      (contained_member (begun_in 3 cells v (get_or lists v [])) s.0 (member_flat g (get_or lists v []) m.0 s.0 m.1 s.1))
+
+  back : (set : List ℕ) → Contains (begun_in 3 cells v (get_or lists v [])) set → Contains (map (triple v) keys) set
+  back set c =
+      let m = member_flattened g (get_or lists v []) set (member_contained (begun_in 3 cells v (get_or lists v [])) set c) in
+      let n = member_flat f (get_or lists v []) m.0 (key set) m.1 (member_map key (g m.0) set m.2) in
+      let k = member_contained keys (key set) ((is.members (key set)).1 (contained_member (keys_in cells v (get_or lists v [])) (key set) n)) in
+      subst (λ s. Contains (map (triple v) keys) s) (restored m.0 m.1 set m.2)
+      (contained_member (map (triple v) keys) (triple v (key set)) (member_map (triple v) keys (key set) k))

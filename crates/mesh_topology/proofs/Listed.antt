@@ -1,34 +1,14 @@
--- Lists that are one since they stand in one order and have the same members, and what a sort and `dedup` leave.
-use Rattle.std.proofs.Common.{◌≡◌, ◌⊎◌, ℕ, zero, suc, ◌<◌, List, [], ◌∷◌, ◌++◌, ◌+◌, length, take, get_or, pos, AllPairs, nat_cmp, nat_eq, Less, refl, sym, ap, subst, ◌∙◌, inl, inr, arith}
-use Rattle.std.specs.Cmp.Lexicographic.{slice_cmp, pointwise, nat_list_cmp_total, nat_list_eq_equiv, texts_ties, same_text}
-use Rattle.std.specs.List.{AllZip, dedup}
-use Rattle.std.specs.List.Sorted.{IsNonDecreasing, IsPermutation, IsSorted, IsStrictlySortedBy}
+-- Lists that are one since they stand in one order and have the same members.
+use Rattle.std.proofs.Common.{◌≡◌, ◌⊎◌, ℕ, zero, suc, ◌<◌, List, [], ◌∷◌, ◌++◌, ◌+◌, length, take, get_or, pos, AllPairs, refl, sym, ap, subst, ◌∙◌, inl, inr, arith}
+use Rattle.std.specs.Cmp.Lexicographic.{nat_list_cmp_total}
+use Rattle.std.specs.List.{AllZip}
+use Rattle.std.specs.List.Sorted.{IsNonDecreasing, IsPermutation}
 use Rattle.std.proofs.lemmas.List.{take_more}
-use Rattle.std.proofs.lemmas.List.Kept.{Contains-dedup, Contains-from_dedup, IsStrictlySortedBy-dedup}
-use Rattle.std.proofs.lemmas.List.Sorted.{Contains-permutation, IsPermutation-sym}
 use Rattle.liszt_base.specs.declared.mesh.Point.{Point}
 use Rattle.liszt_base.specs.declared.mesh.RawCell.{RawCell}
 use Rattle.mesh_topology.specs.Choices.{IsAscending, IsTableOf}
 use Rattle.mesh_topology.proofs.Sets.{Member, member_contained, contained_member}
-use Rattle.mesh_topology.proofs.Rising.{Pairs, all_pairs, pairs_of, Before, not_before_itself}
-use Rattle.mesh_topology.proofs.Ranked.{each_at}
-
--- what a sort and `dedup` leave stands in order
-strictly : (xs : List (List ℕ)) → IsStrictlySortedBy (slice_cmp nat_cmp) xs → Pairs Before xs
-unfolding IsStrictlySortedBy
-strictly [] h = tt
-strictly (x ∷ xs) h = (λ y m. each_at (λ y. slice_cmp nat_cmp x y ≡ Less) xs y h.0 m, strictly xs h.1)
-
--- a sorted permutation without repeats is a table
-pub sorted_table : (sets sorted : List (List ℕ)) → IsPermutation sets sorted → IsSorted (slice_cmp nat_cmp) sorted
-    → IsTableOf sets (dedup (pointwise nat_eq) sorted)
-sorted_table sets sorted moved up = record {
-  ordered = all_pairs Before (dedup (pointwise nat_eq) sorted) (strictly (dedup (pointwise nat_eq) sorted) (IsStrictlySortedBy-dedup nat_list_cmp_total texts_ties sorted up));
-  members = λ set. (
-    λ c. Contains-permutation sorted sets set (IsPermutation-sym sets sorted moved) (Contains-from_dedup (pointwise nat_eq) sorted set c),
-    λ c. Contains-dedup nat_list_eq_equiv (λ x y e. same_text x y (sym e)) sorted set (Contains-permutation sets sorted set moved c),
-  );
-}
+use Rattle.mesh_topology.proofs.Rising.{Pairs, pairs_of, Before, not_before_itself}
 
 -- two lists in one order with the same members are one
 pub same_list : {A : Type 0} (R : A → A → Type 0) → ((x y : A) → R x y → R y x → ⊥) → (xs ys : List A) → Pairs R xs → Pairs R ys

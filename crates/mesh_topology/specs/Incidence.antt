@@ -1,5 +1,5 @@
 -- Lists of ids for each element, turned round and joined. Contracts of private functions cite these. This project's own.
-use Rattle.std.specs.Prelude.{◌≡◌, ◌↔◌, ℕ, ◌<◌, ◌^◌, ◌==◌, nat_lt, not, Bool, List, [], ◌∷◌, ◌++◌, map, length, slice_index, slice_index_or, if◌then◌else◌}
+use Rattle.std.specs.Prelude.{◌≡◌, ◌↔◌, ℕ, ◌+◌, ◌*◌, ◌/◌, ◌%◌, ◌<◌, ◌^◌, ◌==◌, nat_lt, not, Bool, List, [], ◌∷◌, ◌++◌, map, length, slice_index, slice_index_or, if◌then◌else◌}
 use Rattle.std.specs.List.{filter, flat_map, All, AllPairs, Contains}
 use Rattle.liszt_base.specs.Corners.{is_in}
 use Rattle.mesh_topology.specs.Choices.{begins_with, choices}
@@ -31,6 +31,17 @@ is_above low x = nat_lt low x
 
 abbrev pub above_in : List (List ℕ) → ℕ → List ℕ → List ℕ
 above_in rows low ids = flat_map (λ id. filter (is_above low) (slice_index_or rows id [])) ids
+
+-- the second and the third of three corners as one number, those of the triples of some rows that begin with a number, and the triple of a
+-- number that has such a key
+abbrev pub key : List ℕ → ℕ
+key set = slice_index set 1 * 2 ^ 32 + slice_index set 2
+
+abbrev pub keys_in : List (List ℕ) → ℕ → List ℕ → List ℕ
+keys_in rows first ids = flat_map (λ id. map key (filter (begins_with first) (choices 3 (slice_index_or rows id [])))) ids
+
+abbrev pub triple : ℕ → ℕ → List ℕ
+triple first n = first ∷ n / 2 ^ 32 ∷ n % 2 ^ 32 ∷ []
 
 abbrev pub pair : ℕ → ℕ → List ℕ
 pair first other = first ∷ other ∷ []

@@ -2,7 +2,7 @@
 
 ghost use Rattle.std.specs.Prelude.{◌≡◌, ◌≢◌, ℕ, ◌+◌, ◌<◌, ◌≤◌, List, [], length, slice_index_or, IfOk, IfSome, IfNone};
 ghost use Rattle.std.specs.List.{Contains};
-ghost use Rattle.mesh_topology.specs.Choices.{choices, first_of, AreRanks, AreStarts, IsIndexed, IsSmallTable, IsTableOf};
+ghost use Rattle.mesh_topology.specs.Choices.{choices, first_of, AreRanks, AreStarts, IsIndexed, IsSmallTable};
 
 use liszt_base::NoMemory;
 use std::alloc::Global;
@@ -21,14 +21,6 @@ pub fn triples_of_four(corners: [u32; 4]) -> [[u32; 3]; 4]
 {
     let [a, b, c, d] = corners;
     [[a, b, c], [a, b, d], [a, c, d], [b, c, d]]
-}
-
-/// Sorts sets of corners, and leaves each of them once.
-pub fn make_table<const N: usize>(sets: &mut Vec<[u32; N]>)
-    ensures { IsTableOf sets.old.items sets.new.items }
-{
-    sets.sort_unstable();
-    sets.dedup();
 }
 
 /// Where a set of corners stands in a table.

@@ -4,12 +4,15 @@ ghost use Rattle.std.specs.Prelude.{◌≡◌, ◌<◌, ◌++◌, IfOk, OnOk, ma
 ghost use Rattle.std.specs.List.{All, AllZip, filter, flat_map};
 ghost use Rattle.std.specs.List.Sorted.{IsNonDecreasing, IsPermutation};
 ghost use Rattle.mesh_topology.specs.Choices.{begins_with, choices, AreRanks, HasChoices, IsAscending, IsIndexed, IsTableOf};
-ghost use Rattle.mesh_topology.specs.Incidence.{above_in, begun_in, is_above, pair, AreCellsOfEach, IsSetOf};
+ghost use Rattle.mesh_topology.specs.Incidence.{above_in, is_above, key, keys_in, pair, triple, AreCellsOfEach, IsSetOf};
 
-use crate::corner_sets::{first_of, make_table, pairs_of_three, ranks, triples_of_four};
+use crate::corner_sets::{first_of, pairs_of_three, ranks, triples_of_four};
 use crate::incidence::make_set;
 use liszt_base::{NoMemory, PlainLists, RawCell};
 use std::alloc::Global;
+
+/// A corner is below this.
+const KEY: u64 = 4_294_967_296;
 
 /// Corners in ascending order.
 fn ascending(corners: [u32; 4]) -> [u32; 4]
@@ -30,22 +33,6 @@ pub fn cell_vertices(alloc: Global, cells: &[RawCell]) -> Result<Vec<[u32; 4]>, 
         rows.push(ascending(cell.corners))?;
     }
     Ok(rows)
-}
-
-/// Adds the sets that begin with a number.
-fn add_begun<const N: usize>(
-    begun: &mut Vec<[u32; N]>,
-    sets: &[[u32; N]],
-    first: u32,
-) -> Result<(), NoMemory>
-    ensures { OnOk result (begun.new.items ≡ begun.old.items ++ filter (begins_with first) sets.now) }
-{
-    for set in sets {
-        if first_of(set) == first {
-            begun.push(*set)?;
-        }
-    }
-    Ok(())
 }
 
 /// Adds the corners of a cell that are above a number.
@@ -106,21 +93,59 @@ pub fn edges(
     Ok(table)
 }
 
-/// Leaves the triples of corners of some cells that begin with a number, each once, in lexicographic order.
-fn put_triples(
-    triples: &mut Vec<[u32; 3]>,
+/// The second and the third corner of three as one number.
+fn key(corners: &[u32; 3]) -> u64
+    ensures { result ≡ key corners.now }
+{
+    let [_, second, third] = *corners;
+    u64::from(second) * KEY + u64::from(third)
+}
+
+/// Adds the keys of those of some triples that begin with a number.
+fn add_keys(keys: &mut Vec<u64>, triples: &[[u32; 3]; 4], first: u32) -> Result<(), NoMemory>
+    ensures { OnOk result (keys.new.items ≡ keys.old.items ++ map key (filter (begins_with first) triples.now)) }
+{
+    for triple in triples {
+        if first_of(triple) == first {
+            keys.push(key(triple))?;
+        }
+    }
+    Ok(())
+}
+
+/// Sorts keys, and leaves each of them once.
+fn sort_keys(keys: &mut Vec<u64>)
+    ensures { IsSetOf keys.old.items keys.new.items }
+{
+    keys.sort_unstable();
+    keys.dedup();
+}
+
+/// Leaves the keys of the triples of corners of some cells that begin with a number, each once, ascending.
+fn put_keys(
+    keys: &mut Vec<u64>,
     cells: &[[u32; 4]],
     ids: &[u32],
     first: u32,
 ) -> Result<(), NoMemory>
     requires { All (λ id. id < length cells.now) ids.now }
-    ensures { OnOk result (IsTableOf (begun_in 3 cells.now first ids.now) triples.new.items) }
+    ensures { OnOk result (IsSetOf (keys_in cells.now first ids.now) keys.new.items) }
 {
-    triples.clear();
+    keys.clear();
     for id in ids {
-        add_begun(triples, &triples_of_four(cells[*id as usize]), first)?;
+        add_keys(keys, &triples_of_four(cells[*id as usize]), first)?;
     }
-    make_table(triples);
+    sort_keys(keys);
+    Ok(())
+}
+
+/// Adds the triples of a number that have these keys.
+fn add_triples(table: &mut Vec<[u32; 3]>, first: u32, keys: &[u64]) -> Result<(), NoMemory>
+    ensures { OnOk result (table.new.items ≡ table.old.items ++ map (triple first) keys.now) }
+{
+    for key in keys {
+        table.push([first, (*key / KEY) as u32, (*key % KEY) as u32])?;
+    }
     Ok(())
 }
 
@@ -134,10 +159,10 @@ pub fn faces(
     ensures { IfOk result (λ table. IsTableOf (flat_map (choices 3) cells.now) table.items) }
 {
     let mut table = Vec::new(alloc);
-    let mut triples = Vec::new(alloc);
+    let mut keys = Vec::new(alloc);
     for v in 0..vertex_cells.len() {
-        put_triples(&mut triples, cells, vertex_cells.of(v), v as u32)?;
-        table.extend_from_slice(&triples)?;
+        put_keys(&mut keys, cells, vertex_cells.of(v), v as u32)?;
+        add_triples(&mut table, v as u32, keys.as_slice())?;
     }
     Ok(table)
 }
