@@ -44,35 +44,35 @@ use Rattle.kernel_eval.proofs.Keeping.{leads, element_keeps, keeps_body}
 use Rattle.kernel_eval.proofs.Shapes.{fits_again, same_locals, HasShape, like_itself, same_names, local_assigned, spot_set, reduced, with_turns, KeepsShape, out_again, shapes_kept}
 
 -- DOING ENDS: from what stands before, with an answer and what stands afterwards, or by a trap
-abbrev EndsIn : {A : Type 0} → (A → Type 0) → (Moment → Type 0) → Moment → Result A Stop → Type 0
+abbrev pub EndsIn : {S A : Type 0} → (A → Type 0) → (S → Type 0) → S → Result A Stop → Type 0
 EndsIn V G after (Ok a) = V a × G after
 EndsIn V G after (Err (Trapped trap)) = Unit {0}
 EndsIn V G after (Err NoMeaning) = ⊥
 
-abbrev Comes : {A : Type 0} → (A → Type 0) → (Moment → Type 0) → Outcome Moment A → Type 0
+abbrev pub Comes : {S A : Type 0} → (A → Type 0) → (S → Type 0) → Outcome S A → Type 0
 Comes V G outcome = EndsIn V G outcome.after outcome.answer
 
-record Ends {A : Type 0} (F : Moment → Type 0) (V : A → Type 0) (G : Moment → Type 0) (doing : Moment → Outcome Moment A) : Type 0 where
-  pub ends : (m : Moment) → F m → Comes V G (doing m)
+pub record Ends {S A : Type 0} (F : S → Type 0) (V : A → Type 0) (G : S → Type 0) (doing : S → Outcome S A) : Type 0 where
+  pub ends : (s : S) → F s → Comes V G (doing s)
 
-ends_go_on : {A B : Type 0} {V : A → Type 0} {W : B → Type 0} {G H : Moment → Type 0} {next : A → Moment → Outcome Moment B}
-    → ((a : A) → V a → Ends G W H (next a)) → (s : Moment) (answer : Result A Stop) → EndsIn V G s answer
+ends_go_on : {S A B : Type 0} {V : A → Type 0} {W : B → Type 0} {G H : S → Type 0} {next : A → S → Outcome S B}
+    → ((a : A) → V a → Ends G W H (next a)) → (s : S) (answer : Result A Stop) → EndsIn V G s answer
     → Comes W H (go_on next s answer)
 ends_go_on h s (Ok a) e = (h a e.0).ends s e.1
 ends_go_on h s (Err (Trapped trap)) e = tt
 ends_go_on h s (Err NoMeaning) e = e
 
-ends_then : {A B : Type 0} {V : A → Type 0} {W : B → Type 0} {F G H : Moment → Type 0} {first : Moment → Outcome Moment A} {next : A → Moment → Outcome Moment B}
+pub ends_then : {S A B : Type 0} {V : A → Type 0} {W : B → Type 0} {F G H : S → Type 0} {first : S → Outcome S A} {next : A → S → Outcome S B}
     → Ends F V G first → ((a : A) → V a → Ends G W H (next a)) → Ends F W H (and_then first next)
 ends_then {V = V} {W = W} {G = G} {H = H} {first = first} {next = next} f h =
-    record { ends = λ m e. ends_go_on {V = V} {W = W} {G = G} {H = H} {next = next} h (first m).after (first m).answer (f.ends m e) }
+    record { ends = λ s e. ends_go_on {V = V} {W = W} {G = G} {H = H} {next = next} h (first s).after (first s).answer (f.ends s e) }
 
-ends_either : {A : Type 0} {V : A → Type 0} {F G : Moment → Type 0} {this other : Moment → Outcome Moment A} (b : Bool)
+pub ends_either : {S A : Type 0} {V : A → Type 0} {F G : S → Type 0} {this other : S → Outcome S A} (b : Bool)
     → Ends F V G this → Ends F V G other → Ends F V G (either b this other)
 ends_either true f g = f
 ends_either false f g = g
 
-ends_by_trap : {A : Type 0} {V : A → Type 0} {F G : Moment → Type 0} (kind : TrapKind) (place : Place) → Ends F V G (traps kind place)
+pub ends_by_trap : {A : Type 0} {V : A → Type 0} {F G : Moment → Type 0} (kind : TrapKind) (place : Place) → Ends F V G (traps kind place)
 ends_by_trap kind place = record { ends = λ m e. tt }
 
 -- VALUES of a type
@@ -89,7 +89,7 @@ NameFits mesh global is_local element (Some (ScalarName number)) = (is_local ≡
 NameFits mesh global is_local element (Some (FieldName number kind)) = (is_local ≡ false) × (global ≡ Some (FieldName number kind))
 NameFits mesh global is_local element None = is_local ≡ false
 
-record MomentFits (mesh : MeshLists) (globals names : Names) (m : Moment) : Type 0 where
+pub record MomentFits (mesh : MeshLists) (globals names : Names) (m : Moment) : Type 0 where
   pub state_fits : StateFits mesh globals m.state
   pub name_fits : (name : List ℕ) → NameFits mesh (named globals name) (is_some (local_named m name)) (element_named m name) (named names name)
 
@@ -139,7 +139,7 @@ module _ (mesh : MeshLists) (globals : Names) where
       rw (is.0, cell.1) (cell.0.region, refl)
 
   module _ (names : Names) where
-    abbrev Fits : Moment → Type 0
+    abbrev pub Fits : Moment → Type 0
     Fits m = MomentFits mesh globals names m
 
     fits_at : {here : Option Named} {m : Moment} → Fits m → (name : List ℕ) → named names name ≡ here
@@ -293,10 +293,10 @@ module _ (mesh : MeshLists) (globals : Names) where
           ends_then (ends_either (is_decided sign v) (given_value fits) (ends_then (means h) (λ w fits'. operated_fits sign place is fits fits')))
           (λ u fits'. means_behind fits' more)
 
-    number_ends : {e : Expression} → HasType names e NumberType → Ends Fits (λ n. Unit {0}) Fits (number_in mesh globals e)
+    pub number_ends : {e : Expression} → HasType names e NumberType → Ends Fits (λ n. Unit {0}) Fits (number_in mesh globals e)
     number_ends h = ends_then (means h) (λ v fits. number_fits fits)
 
-    truth_ends : {e : Expression} → HasType names e TruthType → Ends Fits (λ b. Unit {0}) Fits (truth_in mesh globals e)
+    pub truth_ends : {e : Expression} → HasType names e TruthType → Ends Fits (λ b. Unit {0}) Fits (truth_in mesh globals e)
     truth_ends h = ends_then (means h) (λ v fits. truth_fits fits)
 
     element_ends : (kind : Kind) {e : Expression} → HasType names e (ElementType kind) → Ends Fits (IsOf mesh kind) Fits (element_in mesh globals e)
@@ -449,12 +449,12 @@ module _ (mesh : MeshLists) (globals : Names) where
       body_ends (FitsThen s more) = ends_then (statement_ends s) (λ done any. body_ends more)
 
 -- AN ITERATION
-is_an_end : {A : Type 0} (after : Moment) (answer : Result A Stop) → EndsIn {A = A} (λ a. Unit {0}) (λ m. Unit {0}) after answer → is_some (run_end answer) ≡ true
-is_an_end after (Ok a) e = refl
-is_an_end after (Err (Trapped trap)) e = refl
-is_an_end after (Err NoMeaning) e = absurd e
+pub is_an_end : {S A : Type 0} (G : S → Type 0) (after : S) (answer : Result A Stop) → EndsIn {A = A} (λ a. Unit {0}) G after answer → is_some (run_end answer) ≡ true
+is_an_end G after (Ok a) e = refl
+is_an_end G after (Err (Trapped trap)) e = refl
+is_an_end G after (Err NoMeaning) e = absurd e
 
-at_first : (mesh : MeshLists) (s : State) (global : Option Named) → ((entry : Named) → global ≡ Some entry → EntryFits mesh s entry)
+pub at_first : (mesh : MeshLists) (s : State) (global : Option Named) → ((entry : Named) → global ≡ Some entry → EntryFits mesh s entry)
     → NameFits mesh global false None global
 at_first mesh s None h = refl
 at_first mesh s (Some (FieldName number kind)) h = (refl, refl)
@@ -475,7 +475,7 @@ opening_fits mesh c turns s id h l = record {
 pub iteration_ends : (mesh : MeshLists) (c : Comprehension) (turns : ℕ) (s : State) (id : ℕ) → IsMesh (length mesh.points) (corner_lists mesh)
     → ComprehensionFits c → StateFits mesh c.names s → id < count mesh c.over → is_some (iteration_end mesh c turns s id) ≡ true
 iteration_ends mesh c turns s id is_mesh fits h l =
-    is_an_end (iteration mesh c turns s id).after (iteration mesh c turns s id).answer
+    is_an_end (λ m. Unit {0}) (iteration mesh c turns s id).after (iteration mesh c turns s id).answer
     ((body_ends mesh c.names is_mesh fits.body_fits).ends (opening c turns s id) (opening_fits mesh c turns s id h l))
 
 pub iteration_fits : (mesh : MeshLists) (c : Comprehension) (turns : ℕ) (s : State) (id : ℕ) → StateFits mesh c.names s

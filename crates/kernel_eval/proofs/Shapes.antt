@@ -28,7 +28,7 @@ shape of entries = map (shaped of) entries
 abbrev pub nothing_of : ℤ → Unit {0}
 nothing_of n = tt {0}
 
-abbrev length_of : List ℤ → ℕ
+abbrev pub length_of : List ℤ → ℕ
 length_of values = length values
 
 module _ {K A B : Type 0} (of : A → B) where
@@ -53,13 +53,13 @@ found_both None None e = refl
 found_both (Some a) (Some b) e = refl
 found_both _ _ e = absurd cc
 
-replaced_shape : {K : Type 0} (is_key : K → Bool) (value : ℤ) (entries : List (K × ℤ)) → shape nothing_of (replaced is_key value entries) ≡ shape nothing_of entries
+pub replaced_shape : {K : Type 0} (is_key : K → Bool) (value : ℤ) (entries : List (K × ℤ)) → shape nothing_of (replaced is_key value entries) ≡ shape nothing_of entries
 replaced_shape is_key value entries = changed_shape nothing_of _ (λ entry. elim (cases_Bool (is_key entry.0)) [
   | inl is ↦ rw is refl
   | inr is ↦ rw is refl
 ]) entries
 
-set_shape : (spot : Spot) (value : ℤ) (fields : Fields) → shape length_of (with_value spot value fields) ≡ shape length_of fields
+pub set_shape : (spot : Spot) (value : ℤ) (fields : Fields) → shape length_of (with_value spot value fields) ≡ shape length_of fields
 set_shape spot value fields = changed_shape length_of (set_in spot value) (λ entry. elim (cases_Bool (entry.0 == spot.field)) [
   | inl is ↦ rw is (ap (λ n. (entry.0, n)) (length-set entry.1 spot.id value))
   | inr is ↦ rw is refl
@@ -118,10 +118,10 @@ pub record Extends {A : Type 0} (before after : List A) : Type 0 where
   pub new : List A
   pub is : after ≡ new ++ before
 
-further : {A : Type 0} (a b c : List A) → Extends a b → Extends b c → Extends a c
+pub further : {A : Type 0} (a b c : List A) → Extends a b → Extends b c → Extends a c
 further a b c r s = record { new = s.new ++ r.new; is = s.is ∙ ap (λ xs. s.new ++ xs) r.is ∙ sym (append_assoc s.new r.new a) }
 
-dropped : {A : Type 0} (before after : List A) → Extends before after → drop (length after - length before) after ≡ before
+pub dropped : {A : Type 0} (before after : List A) → Extends before after → drop (length after - length before) after ≡ before
 dropped before after e =
     let long : length after - length before ≡ length e.new = omega (arith, ap (λ xs. length xs) e.is, length-append e.new before) in
     ap (λ n. drop n after) long ∙ ap (drop (length e.new)) e.is ∙ drop-append_seam e.new before

@@ -1,2 +1,4 @@
+pub mod Growing
+pub mod Meant
 pub mod Staying
 pub mod Turning

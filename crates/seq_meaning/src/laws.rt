@@ -1,17 +1,19 @@
 //! Laws of the definitions, each the contract of a function that does nothing.
 
-ghost use Rattle.std.specs.Prelude.{◌≡◌, ◌≤◌, ℕ};
+ghost use Rattle.std.specs.Prelude.{◌≡◌, ◌≤◌, ℕ, is_some, length, true};
 ghost use Rattle.liszt_base.specs.MeshLists.{MeshLists};
+ghost use Rattle.liszt_base.specs.Corners.{IsMesh};
+ghost use Rattle.mesh_topology.specs.Elements.{corner_lists};
 ghost use Rattle.liszt_base.specs.declared.answers.Place.{Place};
 ghost use Rattle.liszt_base.specs.declared.answers.TrapKind.TheVariants.{Spent};
 ghost use Rattle.liszt_tree.specs.Tree.{Expression, Main, MainWhile};
 ghost use Rattle.kernel_eval.specs.Meaning.{traps};
 ghost use Rattle.phase_types.specs.Names.{Comprehension, Here, into_block, next_scope};
-ghost use Rattle.phase_types.specs.Typed.{ComprehensionFits};
+ghost use Rattle.phase_types.specs.Typed.{ComprehensionFits, IsTyped};
 ghost use Rattle.phase_types.specs.Walk.{OfField, mode_in};
 ghost use Rattle.kernel_eval.specs.Kept.{ChangesNothing, field_values, loop_once};
 ghost use Rattle.kernel_eval.specs.States.{State};
-ghost use Rattle.seq_meaning.specs.Runs.{Progress, comprehension, in_program, in_scope, item_meaning, main_meaning, program_turns, truth_here};
+ghost use Rattle.seq_meaning.specs.Runs.{Progress, comprehension, in_program, in_scope, item_meaning, main_meaning, program_turns, run_end, truth_here};
 
 /// A comprehension changes no field that it doesn't write or reduce, and takes none of the main program's turns.
 pub fn comprehensions_keep_the_rest()
@@ -30,4 +32,10 @@ pub fn main_loops_go_on()
         ≡ loop_once program_turns (in_program (traps Spent place)) (truth_here mesh here test)
         (in_scope (next_scope here) (main_meaning mesh turns (into_block here) body))
         (item_meaning mesh turns here (MainWhile place test body)) p }
+{}
+
+/// A typed program has a meaning: its run ends, done or by a trap.
+pub fn typed_programs_end()
+    ensures { (mesh : MeshLists) (program : Main) (turns : ℕ) → IsMesh (length mesh.points) (corner_lists mesh) → IsTyped program
+        → is_some (run_end mesh program turns) ≡ true }
 {}
