@@ -5,6 +5,7 @@ use Rattle.liszt_base.specs.MeshLists.{MeshLists}
 use Rattle.mesh_topology.specs.Elements.{count, numbers}
 use Rattle.phase_types.specs.Names.{Comprehension}
 use Rattle.kernel_eval.specs.Iterations.{opening}
+use Rattle.kernel_eval.specs.Outcomes.{each}
 use Rattle.kernel_eval.specs.States.{State, in_main}
 use Rattle.kernel_eval.proofs.Keeping.{keeps_number_in, keeps_truth_in, keeps_body}
 use Rattle.kernel_eval.proofs.Shapes.{shaped, shape, nothing_of, length_of, IsLike, like_itself, Extends, further, dropped, replaced_shape, shapes_kept}
@@ -29,7 +30,7 @@ dropped_shape of before after e =
 pub scope_like : (before s : State) → Grows before s → IsLike before (out_of_scope before s)
 scope_like before s r = record { fields = dropped_shape length_of before.fields s.fields r.fields; scalars = dropped_shape nothing_of before.scalars s.scalars r.scalars }
 
-pub over_like : (mesh : MeshLists) (c : Comprehension) (turns : ℕ) (ids : List ℕ) (s : State) → IsLike s (Rattle.kernel_eval.specs.Outcomes.each (behind_iteration mesh c turns) ids s).after
+pub over_like : (mesh : MeshLists) (c : Comprehension) (turns : ℕ) (ids : List ℕ) (s : State) → IsLike s (each (behind_iteration mesh c turns) ids s).after
 over_like mesh c turns ids s = record {
   fields = each_stays (λ s. shape length_of s.fields) (behind_iteration mesh c turns)
       (λ id s. ((keeps_body shapes_kept mesh c.names c.body (λ a t. tt)).kept (opening c turns s id)).like.fields) ids s;
