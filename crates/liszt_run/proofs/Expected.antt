@@ -28,7 +28,7 @@ use Rattle.tet_reader.proofs.Lists.{one_point_list, node_takes, node_again}
 use Rattle.tet_reader.proofs.EleReading.{mesh_takes_over, mesh_again_over, one_mesh_over}
 use Rattle.liszt_run.specs.declared.ended.Ended.{Ended}
 use Rattle.liszt_run.specs.declared.ended.Ended.TheVariants.{Done, Usage, Later, Program as OfProgram, Mesh, Limit, ReadFault, WriteFault, NoMemory}
-use Rattle.liszt_run.specs.Commands.{command_of, SeqCommand}
+use Rattle.command_words.specs.Commands.{command_of, SeqCommand}
 use Rattle.liszt_run.specs.Expected.{Outcome, refusal, Within, Follows, IsProgramFault, ProgramTells, NodeTells, EleTells, TakesIn, Finishes, TakesCells, TakesPoints, Seq, ComesTo, Expected}
 use Rattle.liszt_run.specs.Answers.{IsLost, EndsSo, Answers, HasCauses, IsOutcome}
 

@@ -1,11 +1,4 @@
-pub mod Digits
 pub mod Expected
 pub mod Steps
 pub mod Texts
 pub mod Simples
-pub mod Words
-pub mod WordFronts
-pub mod MatchRows
-pub mod MatchSteps
-pub mod MatchWalk
-pub mod MatchEnd

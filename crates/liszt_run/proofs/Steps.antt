@@ -18,7 +18,7 @@ use Rattle.liszt_run.specs.Simple.{Simple, IsSmall}
 use Rattle.liszt_run.specs.declared.ended.Ended.{Ended}
 use Rattle.liszt_run.specs.declared.ended.Ended.TheVariants.{Done, Usage, Later, Program as OfProgram, Mesh, Limit, ReadFault, WriteFault, NoMemory}
 use Rattle.liszt_run.specs.declared.job.Job.{Job}
-use Rattle.liszt_run.specs.Commands.{command_of, SeqCommand}
+use Rattle.command_words.specs.Commands.{command_of, SeqCommand}
 use Rattle.liszt_run.specs.Endings.{refusal_text, done_text, field_text, too_long}
 use Rattle.liszt_run.specs.Expected.{Outcome, refusal, Within, ProgramTells, NodeTells, EleTells, TakesIn, Finishes, TakesCells, TakesPoints, Seq, ComesTo}
 use Rattle.liszt_run.specs.Answers.{IsLost, Answers, Wrote, HasCauses, HasShelfCause, HasStepCause, StepGives, MakesJob, Prepares, job_text}

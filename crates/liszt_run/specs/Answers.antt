@@ -18,7 +18,7 @@ use Rattle.text_scan.specs.Rows.{TextRows, text_rows}
 use Rattle.liszt_tree.specs.declared.tree.Program.{Program}
 use Rattle.liszt_tree.specs.Tree.{Main, program_tree}
 use Rattle.liszt_run.specs.Simple.{Simple, IsSimple}
-use Rattle.liszt_run.specs.Commands.{command_of}
+use Rattle.command_words.specs.Commands.{command_of}
 use Rattle.liszt_run.specs.Endings.{refusal_text, field_text, done_text}
 use Rattle.liszt_run.specs.Expected.{Outcome, refusal, Within, ComesTo, IsProgramFault, ProgramTells}
 

@@ -17,7 +17,7 @@ use Rattle.tet_reader.specs.Answers.{SpellTable, SpellMesh}
 use Rattle.tet_reader.specs.Faults.{node_fault, cells_fault}
 use Rattle.liszt_run.specs.declared.ended.Ended.{Ended}
 use Rattle.liszt_run.specs.declared.ended.Ended.TheVariants.{Done, Usage, Later, ReadFault}
-use Rattle.liszt_run.specs.Commands.{command_of, SeqCommand}
+use Rattle.command_words.specs.Commands.{command_of, SeqCommand}
 use Rattle.liszt_run.specs.Endings.{refusal_text, done_text, file_limit, too_long, program_ending, mesh_ending}
 use Rattle.liszt_run.specs.Simple.{Simple, IsSimple}
 

@@ -2,7 +2,7 @@ ghost use Rattle.std.specs.Prelude.{◌≡◌, ℕ, ◌≤◌, ◌<◌, ◌^◌,
 ghost use Rattle.liszt_base.specs.declared.answers.Input.TheVariants.{Program as TheProgram, Node, Ele};
 ghost use Rattle.liszt_io.specs.Shelves.{Files};
 ghost use Rattle.liszt_run.specs.declared.ended.Ended.TheVariants.{Usage};
-ghost use Rattle.liszt_run.specs.Commands.{command_of};
+ghost use Rattle.command_words.specs.Commands.{command_of};
 ghost use Rattle.liszt_base.specs.MeshLists.{MeshLists};
 ghost use Rattle.liszt_run.specs.Endings.{done_text};
 ghost use Rattle.liszt_run.specs.Simple.{Simple};
@@ -10,10 +10,10 @@ ghost use Rattle.liszt_tree.specs.Tree.{program_tree};
 ghost use Rattle.liszt_run.specs.Expected.{ProgramTells, NodeTells, EleTells};
 ghost use Rattle.liszt_run.specs.Answers.{HasStepCause, StepGives, TellsItself, TellsRows, MakesJob, Prepares, ReadsProgram, as_tree, job_text};
 
-use crate::command::command_of;
 use crate::ended::{Ended, FILE_LIMIT, mesh_ended, program_ended, too_long};
 use crate::job::Job;
 use crate::simple::simple_of;
+use command_words::command_of;
 use liszt_base::{ByteList, Input, PointTable, ProgramFault, RawMesh, Refused, WordList};
 use liszt_io::{Shelf, WholeFault, read_whole};
 use liszt_lexer::tokens;

@@ -1,18 +1,14 @@
 //! `liszt_run`: runs a program over a tetrahedral mesh and prints what it means.
 #![tactic(auto)]
 
-mod command;
-mod command_cases;
 mod ended;
 #[cfg(test)]
 mod incidence;
 mod inputs;
 mod job;
 mod laws;
-mod matched;
 #[cfg(test)]
 mod mesh_faults;
-mod options;
 #[cfg(test)]
 mod programs;
 mod report;

@@ -2,7 +2,7 @@ ghost use Rattle.std.specs.Prelude.{◌≡◌, ◌⊎◌, ℕ, Some, None, Match
 ghost use Rattle.liszt_io.specs.Causes.{Rose};
 ghost use Rattle.liszt_io.specs.Shelves.{Files};
 ghost use Rattle.liszt_run.specs.declared.ended.Ended.TheVariants.{Usage, WriteFault as NotWritten};
-ghost use Rattle.liszt_run.specs.Commands.{command_of};
+ghost use Rattle.command_words.specs.Commands.{command_of};
 ghost use Rattle.liszt_run.specs.Expected.{Outcome, Expected};
 ghost use Rattle.liszt_run.specs.Answers.{Answers, Wrote, HasCauses, IsOutcome, ended_of};
 

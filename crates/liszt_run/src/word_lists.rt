@@ -2,7 +2,7 @@
 //!
 //! A row is the words, each behind a `/`, and for a command `~` with its three names and its turns.
 
-use crate::command::command_of;
+use command_words::command_of;
 use liszt_base::WordList;
 use std::alloc::{AllocError, Global};
 use std::process::Abort;

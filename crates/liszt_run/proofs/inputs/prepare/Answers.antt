@@ -1,6 +1,7 @@
 use Rattle.std.proofs.Common.{Err, Result, ap, sym, subst, ◌∙◌}
 use Rattle.std.specs.Option.{option_map}
 use Rattle.std.proofs.lemmas.Result.{err_from_is_err_and}
+use Rattle.command_words.specs.Commands.{named_by}
 use Rattle.liszt_run.specs.declared.ended.Ended.{Ended}
 use Rattle.liszt_run.specs.declared.job.Job.{Job}
 use Rattle.liszt_run.specs.Answers.{Prepares}
@@ -26,7 +27,7 @@ returns-in_err-mesh-clause-only g c h =
 pub returns-in_err-mesh-clause-told : goal.returns-in_err-mesh-clause-told
 returns-in_err-mesh-clause-told g c files h =
     let p = err_from_is_err_and c.from_residual-in_err-mesh.result c.from_residual-in_err-mesh.ensures.1 in
-    let command = sym c.in-Ok-Some.ensures.command ∙ ap (option_map (λ d. record { program = d.program.now; node = d.node.now; ele = d.ele.now; turns = d.turns })) c.in-Ok-Some.field-0-is in
+    let command = sym c.in-Ok-Some.ensures.command ∙ ap (option_map named_by) c.in-Ok-Some.field-0-is in
     let first = c.in_ok-program.ensures.told files h in
     let h₁ = c.in_ok-program.ensures.held ∙ h in
     let second = c.in_ok-points.ensures.told files h₁ in
@@ -39,7 +40,7 @@ returns-in_err-mesh-clause-told g c files h =
 
 pub returns-clause-told : goal.returns-clause-told
 returns-clause-told g c files h =
-    let command = sym c.in-Ok-Some.ensures.command ∙ ap (option_map (λ d. record { program = d.program.now; node = d.node.now; ele = d.ele.now; turns = d.turns })) c.in-Ok-Some.field-0-is in
+    let command = sym c.in-Ok-Some.ensures.command ∙ ap (option_map named_by) c.in-Ok-Some.field-0-is in
     let first = c.in_ok-program.ensures.told files h in
     let h₁ = c.in_ok-program.ensures.held ∙ h in
     let second = c.in_ok-points.ensures.told files h₁ in

@@ -1,0 +1,86 @@
+-- What clap finds in the words of a command, and that it takes them.
+use Rattle.std.proofs.Common.{◌≡◌, ◌≢◌, ◌∙◌, Bool, true, false, List, [], ◌∷◌, length, Option, Some, None, refl, sym, ap, codes}
+use Rattle.std.specs.Prelude.{fold, if◌then◌else◌, option_map, slice_get}
+use Rattle.std.specs.List.{list_all}
+use Rattle.std.specs.Option.{option_and_then}
+use Rattle.clap.specs.Walk.{Row, Rule, Text, first_of, has_row, is_empty, nothing_held, rows_of, settled, walk, walk_from, with_default}
+use Rattle.clap.specs.Matches.{first_value}
+use Rattle.clap.specs.Simple.{Shape, built, is_simple, matches_of}
+use Rattle.clap.specs.Takes.{level_passes, takes}
+use Rattle.clap.specs.declared.parser.matches.Found.{Found}
+use Rattle.clap.proofs.SimpleLemmas.{is_nil}
+use Rattle.clap.proofs.TakesLemmas.{leaf_takes}
+use Rattle.clap.proofs.WalkLemmas.{both, first_value-rows}
+use Rattle.command_words.specs.Commands.{SeqCommand, command_of, turns_in}
+use Rattle.command_words.specs.CommandReading.{command_after, turns_given}
+use Rattle.command_words.specs.Matched.{command_by, command_found, seq_app}
+use Rattle.command_words.proofs.MatchRows.{Are, Holds, row}
+use Rattle.command_words.proofs.MatchWalk.{Fits, Reads, takes_words}
+use Rattle.command_words.proofs.Words.{no_command, no_more}
+
+abbrev shape : Shape
+shape = (built seq_app).top
+
+-- no argument has a default
+with_same : (b : Bool) (rows : List Row) → (if b then rows else rows) ≡ rows
+with_same true rows = refl
+with_same false rows = refl
+
+no_defaults : (c : List Rule) (rows : List Row) → list_all (λ a. is_empty a.defaults) c ≡ true → fold with_default rows c ≡ rows
+no_defaults [] rows none = refl
+no_defaults (a ∷ c) rows none =
+    let p = both (is_empty a.defaults) (list_all (λ a. is_empty a.defaults) c) none in
+    let one : with_default rows a ≡ rows = rw (is_nil a.defaults p.0) (with_same (has_row a.id rows) rows) in
+    ap (λ r. fold with_default r c) one ∙ no_defaults c rows p.1
+
+first_is : (value : Text → Option Text) (rows : List Row) (id : Text) → Holds value rows → first_of id rows ≡ value id
+first_is value rows id holds = ap (option_and_then (λ (r : Row). slice_get r.values 0)) (holds id) ∙ go (value id)
+  where
+    go : (o : Option Text) → option_and_then (λ (r : Row). slice_get r.values 0) (option_map (row id) o) ≡ o
+    go None = refl
+    go (Some x) = refl
+
+-- the values are those of the command
+short : (turns : Option Text) (plain : List Text) (command : SeqCommand) → length plain ≢ 4 → command_after None (turns_given turns) plain [] ≡ Some command → ⊥
+short turns plain command other names =
+    let bad : None ≡ Some command = sym (no_more (turns_given turns) plain ∙ no_command plain (turns_in (turns_given turns)) other) ∙ names in
+    cc
+
+by_values : (turns : Option Text) (plain : List Text) (value : Text → Option Text) (command : SeqCommand) → Are turns plain value
+    → command_after None (turns_given turns) plain [] ≡ Some command → command_by value ≡ Some command
+by_values turns (a ∷ b ∷ d ∷ e ∷ []) value command are names = rw (are.1, are.2, are.3, are.4, are.0) names
+by_values turns [] value command are names = absurd (short turns [] command (λ is. cc) names)
+by_values turns (a ∷ []) value command are names = absurd (short turns (a ∷ []) command (λ is. cc) names)
+by_values turns (a ∷ b ∷ []) value command are names = absurd (short turns (a ∷ b ∷ []) command (λ is. cc) names)
+by_values turns (a ∷ b ∷ d ∷ []) value command are names = absurd (short turns (a ∷ b ∷ d ∷ []) command (λ is. cc) names)
+by_values turns (a ∷ b ∷ d ∷ e ∷ f ∷ plain) value command are names = absurd (short turns (a ∷ b ∷ d ∷ e ∷ f ∷ plain) command (λ is. cc) names)
+
+fits : Fits shape
+fits = record { mode = (refl, refl); program = (refl, refl); node = (refl, refl); ele = (refl, refl); turns_long = refl; turns_id = refl }
+
+reads : (words : List Text) (command : SeqCommand) → command_of words ≡ Some command → Reads shape (walk_from nothing_held) words command
+reads words command names =
+    takes_words shape fits command words None None [] nothing_held
+    (record { settles = refl; values = λ id. None; holds = λ id. refl; are = (refl, refl, refl, refl, refl) }) names
+
+pub simple : is_simple seq_app ≡ true
+simple = refl
+
+pub taken : (words : List Text) (command : SeqCommand) → command_of words ≡ Some command → takes seq_app words ≡ true
+taken words command names =
+    let read = reads words command names in
+    let level : level_passes shape [] nothing_held words false ≡ true = rw (read.passes, read.ends.good.settles) refl in
+    leaf_takes (built seq_app) nothing_held words refl level
+
+pub found_in : (words : List Text) (command : SeqCommand) (found : Found) → command_of words ≡ Some command → rows_of found ≡ matches_of seq_app words
+    → command_found found ≡ Some command
+found_in words command found names is =
+    let ends = (reads words command names).ends in
+    let good = ends.good in
+    let rows = (settled shape.rules (walk shape.rules [] nothing_held words).held).rows in
+    let all : rows_of found ≡ rows = is ∙ no_defaults shape.rules rows refl in
+    let at : (id : Text) → first_value found id ≡ good.values id =
+    λ id. first_value-rows found id ∙ ap (first_of id) all ∙ first_is good.values rows id good.holds in
+    let are = good.are in
+    by_values ends.turns ends.plain (first_value found) command
+    (at (codes "turns") ∙ are.0, at (codes "mode") ∙ are.1, at (codes "program") ∙ are.2, at (codes "node") ∙ are.3, at (codes "ele") ∙ are.4) ends.names

@@ -1,0 +1,34 @@
+//! The words of a command line, read by clap.
+ghost use Rattle.std.specs.Prelude.{◌≡◌, IfOk, IfErr, Some};
+ghost use Rattle.clap.specs.Words.{app_of, found_of, kind_of};
+ghost use Rattle.clap.specs.declared.error.kind.ErrorKind.TheVariants.{OutOfMemory};
+ghost use Rattle.command_words.specs.Commands.{SeqCommand, command_of};
+ghost use Rattle.command_words.specs.Matched.{command_found, seq_app};
+
+use clap::{Arg, ArgMatches, Command, Error};
+use liszt_base::WordList;
+use std::alloc::{AllocError, Global};
+
+/// What clap finds in the words. Where they are a command's, it fails for want of memory alone.
+pub fn matches_of(alloc: Global, words: &WordList) -> Result<ArgMatches<'_>, Error>
+    ensures found { (c : SeqCommand) → command_of words.now ≡ Some c → IfOk result (λ m. command_found (found_of m) ≡ Some c) }
+    ensures memory { (c : SeqCommand) → command_of words.now ≡ Some c → IfErr result (λ e. kind_of e ≡ OutOfMemory) }
+{
+    let grammar = grammar(alloc)?;
+    grammar.try_get_matches_from(words.as_slice())
+}
+
+/// `seq PROGRAM NODE ELE`, with the option `--turns`.
+fn grammar<'a>(alloc: Global) -> Result<Command<'a>, AllocError>
+    ensures { IfOk result (λ c. app_of c ≡ seq_app) }
+{
+    let turns = Arg::new(alloc, "turns").long("turns");
+    Command::new(alloc, "liszt_run")
+        .no_binary_name(true)
+        .disable_help_flag(true)
+        .arg(Arg::new(alloc, "mode"))?
+        .arg(Arg::new(alloc, "program"))?
+        .arg(Arg::new(alloc, "node"))?
+        .arg(Arg::new(alloc, "ele"))?
+        .arg(turns)
+}
