@@ -10,6 +10,8 @@ mod laws;
 #[cfg(test)]
 mod mesh_faults;
 #[cfg(test)]
+mod program_faults;
+#[cfg(test)]
 mod programs;
 mod report;
 mod simple;
