@@ -8,7 +8,7 @@ ghost use Rattle.liszt_tree.specs.Canonical as Text;
 ghost use Rattle.liszt_tree.specs.Tree.{body_of, expression, item_tree, main_of, program_tree, statement_tree};
 
 use crate::print_expression::{print_expression, print_spaced};
-use crate::tree::{Expr, How, Item, Program, Stmt};
+use crate::tree::{Expr, How, Item, Name, Program, Stmt};
 use crate::words::{how_text, kind_word, set_word, whole_word};
 use liszt_base::{ByteList, Kind, NoMemory, SetName};
 use std::alloc::Global;
@@ -53,7 +53,7 @@ fn print_declared(
     out: &mut ByteList,
     depth: usize,
     word: &[u8],
-    name: &[u8],
+    name: &Name,
     init: &Expr,
 ) -> Result<(), NoMemory>
     ensures { OnOk result (out.new ≡ out.old ++ closed_line depth (declared word.now name.now (expression init.now))) }
@@ -61,7 +61,7 @@ fn print_declared(
     print_blanks(out, depth)?;
     out.extend(word)?;
     out.extend(b" ")?;
-    out.extend(name)?;
+    out.extend(name.as_slice())?;
     print_initial(out, init)
 }
 
@@ -69,7 +69,7 @@ fn print_declared(
 fn print_field(
     out: &mut ByteList,
     depth: usize,
-    name: &[u8],
+    name: &Name,
     kind: Kind,
     init: &Expr,
 ) -> Result<(), NoMemory>
@@ -78,7 +78,7 @@ fn print_field(
 {
     print_blanks(out, depth)?;
     out.extend(b"field ")?;
-    out.extend(name)?;
+    out.extend(name.as_slice())?;
     out.extend(b" : ")?;
     out.extend(kind_word(kind))?;
     print_initial(out, init)
@@ -107,6 +107,24 @@ fn print_assigned(out: &mut ByteList, how: How, value: &Expr) -> Result<(), NoMe
     out.extend(b";\n")
 }
 
+/// Adds the line of an assignment.
+fn print_assignment(
+    out: &mut ByteList,
+    depth: usize,
+    name: &Name,
+    target: &Option<Expr>,
+    how: How,
+    value: &Expr,
+) -> Result<(), NoMemory>
+    ensures { OnOk result (out.new ≡ out.old
+        ++ closed_line depth (name.now ++ target_text (option_map expression target.now) ++ spaced (Text.how_text how) ++ text_of (expression value.now))) }
+{
+    print_blanks(out, depth)?;
+    out.extend(name.as_slice())?;
+    print_target(out, target)?;
+    print_assigned(out, how, value)
+}
+
 /// Adds the line of a `print`.
 fn print_output(out: &mut ByteList, depth: usize, value: &Expr) -> Result<(), NoMemory>
     ensures { OnOk result (out.new ≡ out.old ++ closed_line depth (codes "print " ++ text_of (expression value.now))) }
@@ -129,12 +147,12 @@ fn print_head(out: &mut ByteList, depth: usize, word: &[u8], test: &Expr) -> Res
 }
 
 /// Adds the begin of the line of a `for`, up to the set.
-fn print_for(out: &mut ByteList, depth: usize, name: &[u8]) -> Result<(), NoMemory>
+fn print_for(out: &mut ByteList, depth: usize, name: &Name) -> Result<(), NoMemory>
     ensures { OnOk result (out.new ≡ out.old ++ (repeat depth (codes "  ") ++ (codes "for (" ++ name.now ++ codes " <- "))) }
 {
     print_blanks(out, depth)?;
     out.extend(b"for (")?;
-    out.extend(name)?;
+    out.extend(name.as_slice())?;
     out.extend(b" <- ")
 }
 
@@ -142,7 +160,7 @@ fn print_for(out: &mut ByteList, depth: usize, name: &[u8]) -> Result<(), NoMemo
 fn print_set_head(
     out: &mut ByteList,
     depth: usize,
-    name: &[u8],
+    name: &Name,
     set: SetName,
     arg: &Expr,
 ) -> Result<(), NoMemory>
@@ -160,7 +178,7 @@ fn print_set_head(
 fn print_mesh_head(
     out: &mut ByteList,
     depth: usize,
-    name: &[u8],
+    name: &Name,
     over: Kind,
 ) -> Result<(), NoMemory>
     ensures { OnOk result (out.new ≡ out.old ++ line depth (codes "for (" ++ name.now ++ codes " <- " ++ Text.whole_word over ++ codes "(mesh)) {")) }
@@ -176,24 +194,15 @@ fn print_statement(out: &mut ByteList, depth: usize, statement: &Stmt) -> Result
     ensures { OnOk result (out.new ≡ out.old ++ statement_text depth (statement_tree statement.now)) }
 {
     match statement {
-        Stmt::Var { name, init, .. } => {
-            print_declared(out, depth, b"var", name.as_slice(), init)
-        }
-        Stmt::Val { name, init, .. } => {
-            print_declared(out, depth, b"val", name.as_slice(), init)
-        }
+        Stmt::Var { name, init, .. } => print_declared(out, depth, b"var", name, init),
+        Stmt::Val { name, init, .. } => print_declared(out, depth, b"val", name, init),
         Stmt::Assign {
             name,
             target,
             how,
             value,
             ..
-        } => {
-            print_blanks(out, depth)?;
-            out.extend(name.as_slice())?;
-            print_target(out, target)?;
-            print_assigned(out, *how, value)
-        }
+        } => print_assignment(out, depth, name, target, *how, value),
         Stmt::If {
             test,
             yes,
@@ -206,23 +215,45 @@ fn print_statement(out: &mut ByteList, depth: usize, statement: &Stmt) -> Result
             print_else(out, depth, *has_else, no.as_slice())?;
             print_line(out, depth, b"}")
         }
-        Stmt::While { test, body, .. } => {
-            print_head(out, depth, b"while", test)?;
-            print_block(out, depth, body.as_slice())?;
-            print_line(out, depth, b"}")
-        }
+        Stmt::While { test, body, .. } => print_while(out, depth, body.as_slice(), test),
         Stmt::For {
             name,
             set,
             arg,
             body,
             ..
-        } => {
-            print_set_head(out, depth, name.as_slice(), *set, arg)?;
-            print_block(out, depth, body.as_slice())?;
-            print_line(out, depth, b"}")
-        }
+        } => print_loop(out, depth, body.as_slice(), name, *set, arg),
     }
+}
+
+/// Adds a `while`. Its body comes first, for the recursion goes down that.
+#[cycle(statements)]
+fn print_while(out: &mut ByteList, depth: usize, body: &[Stmt], test: &Expr) -> Result<(), NoMemory>
+    ensures { OnOk result (out.new ≡ out.old
+        ++ (line depth (headed (codes "while") (expression test.now)) ++ body_text (depth + 1) (body_of (map statement_tree body.now)) ++ line depth (codes "}"))) }
+{
+    print_head(out, depth, b"while", test)?;
+    print_block(out, depth, body)?;
+    print_line(out, depth, b"}")
+}
+
+/// Adds a loop over a set of an element. Its body comes first, too.
+#[cycle(statements)]
+fn print_loop(
+    out: &mut ByteList,
+    depth: usize,
+    body: &[Stmt],
+    name: &Name,
+    set: SetName,
+    arg: &Expr,
+) -> Result<(), NoMemory>
+    ensures { OnOk result (out.new ≡ out.old
+        ++ (line depth (codes "for (" ++ name.now ++ codes " <- " ++ Text.set_word set ++ codes "(" ++ text_of (expression arg.now) ++ codes ")) {")
+        ++ body_text (depth + 1) (body_of (map statement_tree body.now)) ++ line depth (codes "}"))) }
+{
+    print_set_head(out, depth, name, set, arg)?;
+    print_block(out, depth, body)?;
+    print_line(out, depth, b"}")
 }
 
 /// Adds the statements of a block.
@@ -261,6 +292,23 @@ fn print_else(
     print_block(out, depth, body)
 }
 
+/// Adds a comprehension.
+fn print_comprehension(
+    out: &mut ByteList,
+    depth: usize,
+    name: &Name,
+    over: Kind,
+    body: &[Stmt],
+) -> Result<(), NoMemory>
+    ensures { OnOk result (out.new ≡ out.old
+        ++ (line depth (codes "for (" ++ name.now ++ codes " <- " ++ Text.whole_word over ++ codes "(mesh)) {")
+        ++ body_text (depth + 1) (body_of (map statement_tree body.now)) ++ line depth (codes "}"))) }
+{
+    print_mesh_head(out, depth, name, over)?;
+    print_block(out, depth, body)?;
+    print_line(out, depth, b"}")
+}
+
 /// Adds an item of the main program.
 #[cycle(items)]
 fn print_item(out: &mut ByteList, depth: usize, item: &Item) -> Result<(), NoMemory>
@@ -272,20 +320,14 @@ fn print_item(out: &mut ByteList, depth: usize, item: &Item) -> Result<(), NoMem
             kind,
             init,
             ..
-        } => print_field(out, depth, name.as_slice(), *kind, init),
-        Item::Var { name, init, .. } => {
-            print_declared(out, depth, b"var", name.as_slice(), init)
-        }
+        } => print_field(out, depth, name, *kind, init),
+        Item::Var { name, init, .. } => print_declared(out, depth, b"var", name, init),
         Item::Assign {
             name,
             how,
             value,
             ..
-        } => {
-            print_blanks(out, depth)?;
-            out.extend(name.as_slice())?;
-            print_assigned(out, *how, value)
-        }
+        } => print_assignment(out, depth, name, &None, *how, value),
         Item::If {
             test,
             yes,
@@ -298,23 +340,31 @@ fn print_item(out: &mut ByteList, depth: usize, item: &Item) -> Result<(), NoMem
             print_main_else(out, depth, *has_else, no.as_slice())?;
             print_line(out, depth, b"}")
         }
-        Item::While { test, body, .. } => {
-            print_head(out, depth, b"while", test)?;
-            print_main_block(out, depth, body.as_slice())?;
-            print_line(out, depth, b"}")
-        }
+        Item::While { test, body, .. } => print_main_while(out, depth, body.as_slice(), test),
         Item::For {
             name,
             over,
             body,
             ..
-        } => {
-            print_mesh_head(out, depth, name.as_slice(), *over)?;
-            print_block(out, depth, body.as_slice())?;
-            print_line(out, depth, b"}")
-        }
+        } => print_comprehension(out, depth, name, *over, body.as_slice()),
         Item::Print { value, .. } => print_output(out, depth, value),
     }
+}
+
+/// Adds a `while` of the main program. Its body comes first, too.
+#[cycle(items)]
+fn print_main_while(
+    out: &mut ByteList,
+    depth: usize,
+    body: &[Item],
+    test: &Expr,
+) -> Result<(), NoMemory>
+    ensures { OnOk result (out.new ≡ out.old
+        ++ (line depth (headed (codes "while") (expression test.now)) ++ main_text (depth + 1) (main_of (map item_tree body.now)) ++ line depth (codes "}"))) }
+{
+    print_head(out, depth, b"while", test)?;
+    print_main_block(out, depth, body)?;
+    print_line(out, depth, b"}")
 }
 
 /// Adds the items of the main program, or of a block in it.

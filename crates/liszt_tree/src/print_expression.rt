@@ -1,6 +1,6 @@
 //! The canonical text of an expression.
 
-ghost use Rattle.std.specs.Prelude.{◌≡◌, ◌++◌, map, OnOk};
+ghost use Rattle.std.specs.Prelude.{◌≡◌, ◌++◌, codes, map, nat_lt, OnOk};
 ghost use Rattle.std.specs.Fmt.{signed_decimal};
 ghost use Rattle.liszt_tree.specs.Canonical as Text;
 ghost use Rattle.liszt_tree.specs.Canonical.{bracketed, text_of, links_text};
@@ -54,14 +54,8 @@ pub fn print_expression(out: &mut ByteList, e: &Expr) -> Result<(), NoMemory>
     match e {
         Expr::Number { value, .. } => print_number(out, *value),
         Expr::Name { name, .. } => out.extend(name.as_slice()),
-        Expr::Field { name, arg, .. } => {
-            out.extend(name.as_slice())?;
-            print_operand(out, true, arg.get())
-        }
-        Expr::Call { fun, arg, .. } => {
-            out.extend(fun_word(*fun))?;
-            print_operand(out, true, arg.get())
-        }
+        Expr::Field { name, arg, .. } => print_call(out, name.as_slice(), arg.get()),
+        Expr::Call { fun, arg, .. } => print_call(out, fun_word(*fun), arg.get()),
         Expr::Towards { arg, to, .. } => {
             out.extend(b"towards(")?;
             print_expression(out, arg.get())?;
@@ -69,16 +63,8 @@ pub fn print_expression(out: &mut ByteList, e: &Expr) -> Result<(), NoMemory>
             print_expression(out, to.get())?;
             out.extend(b")")
         }
-        Expr::Neg { arg, .. } => {
-            out.extend(b"-")?;
-            let arg = arg.get();
-            print_operand(out, level_of(arg) < PREFIX, arg)
-        }
-        Expr::Not { arg, .. } => {
-            out.extend(b"!")?;
-            let arg = arg.get();
-            print_operand(out, level_of(arg) < PREFIX, arg)
-        }
+        Expr::Neg { arg, .. } => print_prefixed(out, b"-", arg.get()),
+        Expr::Not { arg, .. } => print_prefixed(out, b"!", arg.get()),
         Expr::Chain { level, first, rest } => {
             let (level, first) = (chain_level(*level), first.get());
             print_operand(out, level_of(first) <= level, first)?;
@@ -96,6 +82,24 @@ pub fn print_expression(out: &mut ByteList, e: &Expr) -> Result<(), NoMemory>
             print_operand(out, level_of(right) <= COMPARISON, right)
         }
     }
+}
+
+/// Adds what is applied, and its operand in brackets.
+#[cycle(print)]
+fn print_call(out: &mut ByteList, word: &[u8], arg: &Expr) -> Result<(), NoMemory>
+    ensures { OnOk result (out.new ≡ out.old ++ (word.now ++ codes "(" ++ text_of (expression arg.now) ++ codes ")")) }
+{
+    out.extend(word)?;
+    print_operand(out, true, arg)
+}
+
+/// Adds a prefix operator and its operand.
+#[cycle(print)]
+fn print_prefixed(out: &mut ByteList, sign: &[u8], arg: &Expr) -> Result<(), NoMemory>
+    ensures { OnOk result (out.new ≡ out.old ++ (sign.now ++ bracketed (nat_lt (Text.level_of (expression arg.now)) 6) (text_of (expression arg.now)))) }
+{
+    out.extend(sign)?;
+    print_operand(out, level_of(arg) < PREFIX, arg)
 }
 
 /// Adds an expression, in brackets or not.

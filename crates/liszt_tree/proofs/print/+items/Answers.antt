@@ -2,30 +2,14 @@ use Rattle.std.proofs.Common.{◌≡◌, map, refl, rules, append_assoc}
 use Rattle.std.proofs.lemmas.Result.{IfOk-equal}
 use Rattle.liszt_tree.specs.declared.tree.Item.{the_lemmas}
 use Rattle.liszt_tree.specs.Canonical.{item_text}
-use Rattle.liszt_tree.specs.Tree.{item_tree, statement_tree, expression, body_of, main_of, MainIf, MainWhile, MainFor}
-use Rattle.liszt_tree.proofs.Lines.{line_steps}
+use Rattle.liszt_tree.specs.Tree.{item_tree, statement_tree, expression, body_of, main_of, MainIf}
 use Rattle.liszt_tree.proofs.Walks.{main_after, step}
 use Rattle.liszt_tree.proofs.print.+items.Goals as goal
-
-pub print_item-returns-in_ok-extend-in-Assign : goal.print_item-returns-in_ok-extend-in-Assign
-print_item-returns-in_ok-extend-in-Assign t c = search (rules, the_lemmas, line_steps)
 
 pub print_item-returns-in_ok-print_main_else-in-If : goal.print_item-returns-in_ok-print_main_else-in-If
 print_item-returns-in_ok-print_main_else-in-If t c =
     let i = c.in-If in
     let is : item_tree c.args.item.now ≡ MainIf i.place (expression i.test) (main_of (map item_tree i.yes)) (main_of (map item_tree i.no)) i.has_else = search (rules, the_lemmas) in
-    search (rules, is, IfOk-equal, append_assoc)
-
-pub print_item-returns-in_ok-print_main_block-in-While : goal.print_item-returns-in_ok-print_main_block-in-While
-print_item-returns-in_ok-print_main_block-in-While t c =
-    let i = c.in-While in
-    let is : item_tree c.args.item.now ≡ MainWhile i.place (expression i.test) (main_of (map item_tree i.body)) = search (rules, the_lemmas) in
-    search (rules, is, IfOk-equal, append_assoc)
-
-pub print_item-returns-in_ok-print_block-in-For : goal.print_item-returns-in_ok-print_block-in-For
-print_item-returns-in_ok-print_block-in-For t c =
-    let i = c.in-For in
-    let is : item_tree c.args.item.now ≡ MainFor i.place i.name i.at i.over (body_of (map statement_tree i.body)) = search (rules, the_lemmas) in
     search (rules, is, IfOk-equal, append_assoc)
 
 pub print_main-loop-item-preserved : goal.print_main-loop-item-preserved

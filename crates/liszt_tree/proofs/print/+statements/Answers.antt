@@ -2,30 +2,14 @@ use Rattle.std.proofs.Common.{◌≡◌, map, refl, rules, append_assoc}
 use Rattle.std.proofs.lemmas.Result.{IfOk-equal}
 use Rattle.liszt_tree.specs.declared.tree.Stmt.{the_lemmas}
 use Rattle.liszt_tree.specs.Canonical.{statement_text}
-use Rattle.liszt_tree.specs.Tree.{statement_tree, expression, body_of, If, While, For}
-use Rattle.liszt_tree.proofs.Lines.{line_steps}
+use Rattle.liszt_tree.specs.Tree.{statement_tree, expression, body_of, If}
 use Rattle.liszt_tree.proofs.Walks.{body_after, step}
 use Rattle.liszt_tree.proofs.print.+statements.Goals as goal
-
-pub print_statement-returns-in_ok-print_target-in-Assign : goal.print_statement-returns-in_ok-print_target-in-Assign
-print_statement-returns-in_ok-print_target-in-Assign t c = search (rules, the_lemmas, line_steps)
 
 pub print_statement-returns-in_ok-print_else-in-If : goal.print_statement-returns-in_ok-print_else-in-If
 print_statement-returns-in_ok-print_else-in-If t c =
     let i = c.in-If in
     let is : statement_tree c.args.statement.now ≡ If i.place (expression i.test) (body_of (map statement_tree i.yes)) (body_of (map statement_tree i.no)) i.has_else = search (rules, the_lemmas) in
-    search (rules, is, IfOk-equal, append_assoc)
-
-pub print_statement-returns-in_ok-print_block-in-While : goal.print_statement-returns-in_ok-print_block-in-While
-print_statement-returns-in_ok-print_block-in-While t c =
-    let i = c.in-While in
-    let is : statement_tree c.args.statement.now ≡ While i.place (expression i.test) (body_of (map statement_tree i.body)) = search (rules, the_lemmas) in
-    search (rules, is, IfOk-equal, append_assoc)
-
-pub print_statement-returns-in_ok-print_block-in-For : goal.print_statement-returns-in_ok-print_block-in-For
-print_statement-returns-in_ok-print_block-in-For t c =
-    let i = c.in-For in
-    let is : statement_tree c.args.statement.now ≡ For i.place i.name i.at i.set i.set_at (expression i.arg) (body_of (map statement_tree i.body)) = search (rules, the_lemmas) in
     search (rules, is, IfOk-equal, append_assoc)
 
 pub print_body-loop-statement-preserved : goal.print_body-loop-statement-preserved
