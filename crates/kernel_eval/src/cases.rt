@@ -1,8 +1,8 @@
 //! Worked cases of the definitions, which the checker computes. Each function does nothing; its contract is the case.
 #![allow(dead_code)]
 
-ghost use Rattle.std.specs.Prelude.{◌≡◌, ◌-ℤ◌, true, false, Ok, None, pos, neg_ℤ};
-ghost use Rattle.liszt_base.specs.declared.answers.TrapKind.TheVariants.{Overflow, ZeroDivide, NilElement};
+ghost use Rattle.std.specs.Prelude.{◌≡◌, true, false, Ok, pos, neg_ℤ};
+ghost use Rattle.liszt_base.specs.declared.answers.TrapKind.TheVariants.{Overflow, ZeroDivide};
 ghost use Rattle.liszt_base.specs.declared.elements.Op.TheVariants.{Add, Min};
 ghost use Rattle.liszt_tree.specs.declared.tree.How.TheVariants.{Set, Fold, Less};
 ghost use Rattle.liszt_tree.specs.declared.tree.Sign.TheVariants.{Plus, Minus, Times, Over, Rest};

@@ -1,7 +1,7 @@
 //! Worked cases of the definitions, which the checker computes. Each function does nothing; its contract is the case.
 #![allow(dead_code)]
 
-ghost use Rattle.std.specs.Prelude.{◌≡◌, ◌-◌, ◌^◌, pos, neg_ℤ};
+ghost use Rattle.std.specs.Prelude.{◌≡◌, pos, neg_ℤ};
 ghost use Rattle.liszt_base.specs.declared.elements.Op.TheVariants.{Add, Mul, And, Or, Xor, Min, Max};
 ghost use Rattle.liszt_base.specs.Reductions.{fold, identity_of, word, value};
 

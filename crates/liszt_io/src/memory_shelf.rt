@@ -1,7 +1,7 @@
-ghost use Rattle.std.specs.Prelude.{◌≡◌, ◌+◌, ◌-◌, ◌^◌, ◌<◌, ◌≤◌, ℕ, min, map, length, List, IfSome, IfNone, Some, None};
+ghost use Rattle.std.specs.Prelude.{◌≡◌, ◌+◌, ◌-◌, ◌<◌, ◌≤◌, ℕ, min, map, length, List, IfSome, IfNone, Some, None};
 ghost use Rattle.std.specs.Option.{option_map, ForSome};
 ghost use Rattle.liszt_io.specs.Shelves.{file, IsPiece};
-ghost use Rattle.liszt_io.specs.Held.{files_of, name_at, bytes_at, IsFileAt, IsOpenAt};
+ghost use Rattle.liszt_io.specs.Held.{files_of, name_at, IsFileAt, IsOpenAt};
 
 use crate::held_file::{CallList, FileList, HeldFile};
 use crate::outside::{Failed, Shelf};

@@ -1,7 +1,6 @@
-ghost use Rattle.std.specs.Prelude.{◌≡◌, ◌<◌, ◌≤◌, ◌+◌, ◌-◌, ◌&&◌, ◌^◌, ℕ, [], List, length, min, not, IfOk, is_ok, vec_capacity, Some};
+ghost use Rattle.std.specs.Prelude.{◌≡◌, ◌<◌, ◌≤◌, ◌-◌, length, min, IfOk, is_ok, vec_capacity, Some};
 ghost use Rattle.liszt_io.specs.Causes.{HasCause};
 ghost use Rattle.liszt_io.specs.Sinks.{Takes};
-ghost use Rattle.liszt_io.specs.Scripts.{fails_next, IsCallLater};
 
 use crate::held_file::CallList;
 use crate::outside::{Failed, Sink};

@@ -1,9 +1,8 @@
 //! The longest piece at the front of a text.
-ghost use Rattle.std.specs.Prelude.{◌≡◌, ◌+◌, ◌-◌, ◌^◌, ◌<◌, ◌≤◌, true, false, None, Some, if◌then◌else◌, nat_lt};
+ghost use Rattle.std.specs.Prelude.{◌≡◌, ◌+◌, ◌-◌, ◌^◌, ◌<◌, true, false, None, Some, if◌then◌else◌, nat_lt};
 ghost use Rattle.std.specs.Prelude.{length, take, slice_index, codes, pos};
 ghost use Rattle.std.specs.Char.{is_ascii_digit};
 ghost use Rattle.std.specs.List.{position, prefix_len, list_all};
-ghost use Rattle.std.specs.Option.{option_map};
 ghost use Rattle.std.specs.Str.{bytes_eq};
 ghost use Rattle.std.specs.Str.Parse.{digits_value};
 ghost use Rattle.liszt_lexer.specs.Fronts.{IsFront, found_in, is_in_name, is_in_comment, number_found, name_found, symbol_found};

@@ -1,5 +1,5 @@
 //! The tokens of a text, by the longest piece at each place.
-ghost use Rattle.std.specs.Prelude.{◌≡◌, ◌+◌, ◌^◌, ◌<◌, ◌≤◌, length};
+ghost use Rattle.std.specs.Prelude.{◌≡◌, ◌+◌, ◌^◌, ◌<◌, length};
 ghost use Rattle.liszt_lexer.specs.Fronts.{found_in};
 ghost use Rattle.liszt_lexer.specs.Lexed.{LexesTo};
 ghost use Rattle.liszt_lexer.specs.Rest.{finding_at, tokens_with, Takes};

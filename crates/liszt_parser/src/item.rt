@@ -1,11 +1,11 @@
 //! The items of a main program, read as the statements of a body are.
 
-ghost use Rattle.std.specs.Prelude.{◌≡◌, ◌≤◌, length, drop, map};
+ghost use Rattle.std.specs.Prelude.{◌≤◌, length, map};
 ghost use Rattle.std.specs.Option.{option_map};
-ghost use Rattle.liszt_tree.specs.Tree.{expression as tree, body_of, item_tree, main_of, statement_tree};
+ghost use Rattle.liszt_tree.specs.Tree.{item_tree, main_of};
 ghost use Rattle.liszt_parser.specs.Productions.{comprehensions, fields, main_assignments, main_blocks, main_branches, main_elses, main_items, main_repetitions, main_variables, mains, prints};
 ghost use Rattle.liszt_parser.specs.Reading.{Outcome, Settled};
-ghost use Rattle.liszt_parser.specs.Sources.{all_of, seen_as};
+ghost use Rattle.liszt_parser.specs.Sources.{all_of};
 
 use crate::choices::{how, kind, whole};
 use crate::expression::bracketed;

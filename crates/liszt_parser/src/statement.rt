@@ -1,13 +1,12 @@
 //! Statements of a comprehension's body, read one behind the other by a loop, and blocks by recursion.
 
-ghost use Rattle.std.specs.Prelude.{◌≡◌, ◌≤◌, IfOk, length, drop, map};
+ghost use Rattle.std.specs.Prelude.{◌≤◌, IfOk, length, drop, map};
 ghost use Rattle.std.specs.Option.{option_map};
 ghost use Rattle.liszt_tree.specs.Tree.{expression as tree, body_of, statement_tree};
 ghost use Rattle.liszt_parser.specs.Productions.{assignments, blocks, bodies, branches, closings, constants, elses, repetitions, set_loops, statements, variables};
 ghost use Rattle.liszt_parser.specs.Productions as Productions;
 ghost use Rattle.liszt_parser.specs.Reading.{EndsAt, Outcome, Settled};
 ghost use Rattle.liszt_parser.specs.Lies.{Lies};
-ghost use Rattle.liszt_parser.specs.Sorts.{Ends};
 ghost use Rattle.liszt_parser.specs.Sources.{all_of, seen_as};
 
 use crate::choices::{how, set};

@@ -1,4 +1,4 @@
-ghost use Rattle.std.specs.Prelude.{◌≡◌, ◌+◌, ◌<◌, ◌≤◌, ◌^◌, [], ◌∷◌, ◌++◌, length};
+ghost use Rattle.std.specs.Prelude.{◌≡◌, ◌+◌, ◌<◌, ◌≤◌, ◌^◌, [], ◌++◌, length};
 ghost use Rattle.liszt_io.specs.Causes.{HasCause};
 ghost use Rattle.liszt_io.specs.Sinks.{Writes};
 ghost use Rattle.liszt_run.specs.Answers.{job_text};

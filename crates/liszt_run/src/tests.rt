@@ -1,5 +1,4 @@
 ghost use Rattle.std.specs.Prelude.{◌≡◌, ◌<◌, IfOk, None, length};
-ghost use Rattle.liszt_io.specs.Causes.{HasCause};
 
 use crate::ended::{Ended, status_of};
 use crate::top::run_words;

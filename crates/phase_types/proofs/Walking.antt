@@ -13,7 +13,7 @@ use Rattle.liszt_tree.specs.declared.tree.How.TheVariants.{Set, Fold, Less}
 use Rattle.liszt_tree.specs.Tree.{Expression, Number, Name, Field, Call, Towards, Neg, Not, Chain, Compare, Links, no_links, link}
 use Rattle.liszt_tree.specs.Tree.{Statement, Var, Val, Assign, If, While, For, Body, no_statement, statement}
 use Rattle.phase_types.specs.Names.{Names, Named, FieldName, ScalarName, LocalName, ElementName, named, is_built_in}
-use Rattle.phase_types.specs.Types.{ValueType, NumberType, TruthType, ElementType, is_type, HasType, IsNumber, IsScalar, IsLocal, IsElement, IsField, IsCall, IsTowards, IsNeg, IsNot, IsChain, AreNumbers, AreElements, FollowsType, NoMore, OneMore, field_type, operator_type, type_of, type_behind}
+use Rattle.phase_types.specs.Types.{ValueType, NumberType, TruthType, ElementType, HasType, IsNumber, IsScalar, IsLocal, IsElement, IsField, IsCall, IsTowards, IsNeg, IsNot, IsChain, AreNumbers, AreElements, FollowsType, NoMore, OneMore, field_type, operator_type, type_of, type_behind}
 use Rattle.phase_types.specs.Walk.{Step, Test, Accesses, fails, needs, uses, place_of, has_type, has_members, name_steps, field_steps, fits, steps_of, steps_behind, typed_steps, new_name, with_val, names_behind, val_steps, target_steps, scalar_steps, plain_steps, mode_by, statement_steps, body_steps}
 use Rattle.phase_types.specs.Typed.{IsNew, IsReduction, StatementFits, FitsVar, FitsVal, FitsField, FitsScalar, FitsLocal, FitsIf, FitsWhile, FitsFor, BodyFits, FitsNothing, FitsThen}
 use Rattle.phase_types.proofs.Typing.{same_type, types_are, operator_fits, computed, typed}

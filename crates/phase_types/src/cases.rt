@@ -6,7 +6,7 @@ ghost use Rattle.liszt_base.specs.declared.accesses.Mode.TheVariants.{Read, Redu
 ghost use Rattle.liszt_base.specs.declared.answers.ProgramWhat.TheVariants.{NameUnknown, NameTwice, TypeMismatch, ScalarWrite, BuiltinWrite};
 ghost use Rattle.liszt_base.specs.declared.elements.Kind.TheVariants.{Vertex, Edge, Face, Cell};
 ghost use Rattle.liszt_base.specs.declared.elements.Op.TheVariants.{Add};
-ghost use Rattle.liszt_tree.specs.Trees.{degrees, over_faces};
+ghost use Rattle.liszt_tree.specs.Trees.{degrees};
 ghost use Rattle.phase_types.specs.Cases.{at, fault, conflict_between, adds_itself, adds_and_multiplies, adds_and_writes, adds_and_takes, unknown_name, name_twice, truth_as_number, third_operand, first_operand, writes_scalar, adds_scalar_to_itself, writes_mark, edges_of_edge, unknown_in_set, edge_for_vertex, blocks, in_line, reads_only, reads_then_writes, scalar_as_target, scalar_as_argument, visits_again, built_in_as_name, name_of_other_block, writes_scalar_unknown, truth_for_built_in, edge_and_vertex, flipped_vertex};
 ghost use Rattle.phase_types.specs.Names.{fields_of, scalars_of, comprehensions_of, scopes_of};
 ghost use Rattle.phase_types.specs.Walk.{check_fault, mode_of, scalar_mode_of};

@@ -1,6 +1,6 @@
 //! Laws of the definitions, each the contract of a function that does nothing.
 
-ghost use Rattle.std.specs.Prelude.{◌≡◌, ℕ, Some, None, List, [], ◌∷◌, ◌++◌, length, slice_get};
+ghost use Rattle.std.specs.Prelude.{◌≡◌, ℕ, Some, None, List, ◌∷◌, ◌++◌, length, slice_get};
 ghost use Rattle.liszt_tree.specs.Tree.{Expression, Main, MainItem};
 ghost use Rattle.phase_types.specs.Names.{Names, Here, Part, FieldPart, ScalarPart, ComprehensionPart, ScopePart, Comprehension, GoesOn, behind_item, behind_main, fields_in, scalars_in, comprehensions_in, scopes_in};
 ghost use Rattle.phase_types.specs.declared.info.FieldInfo.{FieldInfo as Info};

@@ -1,7 +1,7 @@
 //! Worked cases of the definitions, which the checker computes. Each function does nothing; its contract is the case.
 #![allow(dead_code)]
 
-ghost use Rattle.std.specs.Prelude.{◌≡◌, ◌-◌, ◌^◌, Some, None, Ok, [], ◌∷◌, ℤ, map, pos, neg_ℤ, replicate};
+ghost use Rattle.std.specs.Prelude.{◌≡◌, ◌-◌, ◌^◌, Some, None, Ok, [], ◌∷◌, map, pos, neg_ℤ, replicate};
 ghost use Rattle.liszt_base.specs.declared.answers.RunEnd.TheVariants.{Done as IsDone};
 ghost use Rattle.liszt_base.specs.declared.answers.TrapKind.TheVariants.{Overflow, ZeroDivide, NilElement, Prints, Spent};
 ghost use Rattle.liszt_base.specs.declared.elements.Kind.TheVariants.{Cell, Edge, Face, Vertex};

@@ -1,9 +1,8 @@
-ghost use Rattle.std.specs.Prelude.{◌≡◌, ◌+◌, ◌-◌, ◌<◌, ◌≤◌, ◌^◌, ◌++◌, ◌∷◌, [], drop, length, nat_abs};
+ghost use Rattle.std.specs.Prelude.{◌≡◌, ◌+◌, ◌-◌, ◌<◌, ◌≤◌, ◌^◌, ◌++◌, ◌∷◌, [], drop, length};
 ghost use Rattle.liszt_base.specs.Corners.{are_different as AreDifferent};
 ghost use Rattle.liszt_base.specs.declared.answers.MeshWhat.TheVariants.{CornerTwice};
 ghost use Rattle.text_scan.specs.Tables.{row_at};
 ghost use Rattle.tet_reader.specs.Tests.{unless, row_tests};
-ghost use Rattle.tet_reader.specs.Headers.{number_at};
 ghost use Rattle.tet_reader.specs.Kinds.{IsCorner, corner_of, region_of as RegionOf};
 ghost use Rattle.tet_reader.specs.Points.{IsCellRow, AreNumbered, Cells};
 ghost use Rattle.tet_reader.specs.Faults.{cell_words, row_corners, first_number as FirstNumber, ele_fault, cells_fault};

@@ -1,4 +1,4 @@
-ghost use Rattle.std.specs.Prelude.{◌≡◌, ◌<◌, ◌^◌, length};
+ghost use Rattle.std.specs.Prelude.{◌<◌, ◌^◌, length};
 ghost use Rattle.tet_reader.specs.Faults.{first_mesh_fault};
 ghost use Rattle.tet_reader.specs.Answers.{Reads, SpelledBy};
 

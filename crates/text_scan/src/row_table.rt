@@ -1,8 +1,8 @@
-ghost use Rattle.std.specs.Prelude.{◌≡◌, ◌+◌, ◌<◌, ◌≤◌, ◌^◌, [], ◌∷◌, ◌++◌, OnOk, OnErr, Some, length, map, slice_get, slice_index};
+ghost use Rattle.std.specs.Prelude.{◌≡◌, ◌+◌, ◌<◌, ◌≤◌, [], ◌∷◌, ◌++◌, OnOk, Some, length, map, slice_get, slice_index};
 ghost use Rattle.liszt_base.specs.Cuts.{start_at};
 ghost use Rattle.std.specs.List.{filter};
 ghost use Rattle.text_scan.specs.Rows.{words, has_words};
-ghost use Rattle.text_scan.specs.Tables.{row_at, words_in};
+ghost use Rattle.text_scan.specs.Tables.{row_at};
 
 use crate::pieces::{content, next_word};
 use liszt_base::{NoMemory, PlainLists};

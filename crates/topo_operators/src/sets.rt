@@ -1,11 +1,11 @@
 //! The sets of an element, each as an iterator over its members.
 
-ghost use Rattle.std.specs.Prelude.{◌≡◌, ◌<◌, ◌==◌, true, [], ◌∷◌, map, unwrap_or, slice_index};
+ghost use Rattle.std.specs.Prelude.{◌≡◌, ◌<◌, ◌==◌, true, [], map, unwrap_or, slice_index};
 ghost use Rattle.std.specs.List.{All, find};
 ghost use Rattle.std.specs.Iterator.{YieldsFirst};
 ghost use Rattle.liszt_base.specs.Corners.{is_in, includes, same_members, induced_cycles};
 ghost use Rattle.liszt_base.specs.declared.elements.Kind.TheVariants.{Vertex, Edge, Face, Cell};
-ghost use Rattle.mesh_topology.specs.Elements.{count, corners, near as Near, sides, rotations, steps};
+ghost use Rattle.mesh_topology.specs.Elements.{count, corners, near as Near, rotations, steps};
 ghost use Rattle.mesh_topology.specs.Tables.{has_near};
 ghost use Rattle.topo_operators.specs.Operands.{CanVisit, IsElement};
 ghost use Rattle.topo_operators.specs.Operators.{cycle_of as CycleOf, edge_along as EdgeAlong, members as MembersOf, unflipped as Unflipped};

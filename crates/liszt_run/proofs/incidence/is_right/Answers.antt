@@ -1,4 +1,4 @@
-use Rattle.std.proofs.Common.{rules, ◌<◌, length, ap, arith}
+use Rattle.std.proofs.Common.{rules, length, ap, arith}
 use Rattle.mesh_topology.proofs.Few.{fits}
 use Rattle.liszt_run.proofs.incidence.is_right.Goals as goal
 
