@@ -1,9 +1,10 @@
 //! What lies beside what, found by comparing corners alone, against the tables of a mesh. The meshes come from their texts.
 
+use crate::tests::or_no_memory;
 use itoa::Buffer;
 use liszt_base::{ByteList, Kind, NoMemory, PlainLists, RawMesh};
 use mesh_topology::Mesh;
-use std::alloc::{AllocError, Global};
+use std::alloc::Global;
 use std::test::Fail;
 use tet_reader::read_mesh;
 use text_scan::whole;
@@ -390,7 +391,7 @@ fn tables_agree_with_corners(rt: HostRuntime) -> Result<(), Fail> {
         let name = parts.next().unwrap_or("");
         let points = parts.next().unwrap_or("");
         let cells = parts.next().unwrap_or("");
-        let agrees = row_agrees(rt.alloc(), points, cells).map_err(|_| AllocError)?;
+        let agrees = or_no_memory(row_agrees(rt.alloc(), points, cells))?;
         assert!(&rt; agrees, "{name}");
         seen = seen.saturating_add(1);
     }

@@ -9,7 +9,7 @@ use crate::program_faults::{
     BODY_ENDS, BODY_TOKENS, ITEM_ENDS, ITEM_TOKENS, LEXER, MAIN_ALONE, OPERANDS, PLACES,
     WORDS_AND_CHAINS,
 };
-use crate::tests::{ELE, NODE, row, run_into, shelf_of};
+use crate::tests::{ELE, NODE, or_no_memory, row, run_into, shelf_of};
 use liszt_base::ByteList;
 use liszt_lexer::tokens;
 use liszt_parser::parse;
@@ -457,7 +457,7 @@ fn before_a_missing_mesh(rt: HostRuntime) -> Result<(), Fail> {
         ("x =", "program Syntax 1:4\n", 2),
         ("x = 1 #", "program BadByte 1:7\n", 2),
     ] {
-        let mut shelf = shelf_of(rt.alloc(), program, NODE, ELE, 4).map_err(|_| AllocError)?;
+        let mut shelf = or_no_memory(shelf_of(rt.alloc(), program, NODE, ELE, 4))?;
         let (ended, out) = run_into(&rt, &mut shelf, 1000, 0)?;
         assert_eq!(&rt; out.bytes(), text.as_bytes(), "{program}");
         assert_eq!(&rt; status_of(ended), status);
@@ -488,7 +488,7 @@ fn canonical_texts(rt: HostRuntime) -> Result<(), Fail> {
 fn printed_of(alloc: Global, program: &str) -> Result<ByteList, AllocError> {
     let bytes = program.as_bytes();
     let text = &bytes[..bytes.len().min(1000)];
-    let tokens = tokens(alloc, text).map_err(|_| AllocError)?;
-    let program = parse(alloc, text, &tokens).map_err(|_| AllocError)?;
-    print_tree(alloc, &program).map_err(|_| AllocError)
+    let tokens = or_no_memory(tokens(alloc, text))?;
+    let program = or_no_memory(parse(alloc, text, &tokens))?;
+    or_no_memory(print_tree(alloc, &program))
 }

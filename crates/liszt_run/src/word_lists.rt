@@ -2,6 +2,7 @@
 //!
 //! A row is the words, each behind a `/`, and for a command `~` with its three names and its turns.
 
+use crate::tests::or_no_memory;
 use command_words::command_of;
 use liszt_base::WordList;
 use std::alloc::{AllocError, Global};
@@ -157,9 +158,9 @@ fn told_of(alloc: Global, row: &str) -> Result<String, AllocError> {
     let mut words = WordList::new(alloc);
     for word in row.split('/').skip(1) {
         let word = String::from_str(alloc, word)?;
-        words.push(word).map_err(|_| AllocError)?;
+        or_no_memory(words.push(word))?;
     }
-    match command_of(alloc, &words).map_err(|_| AllocError)? {
+    match or_no_memory(command_of(alloc, &words))? {
         Some(command) => {
             format!(in alloc;
                 "{} {} {} {}",
