@@ -1,6 +1,7 @@
 //! A yardstick for the program's time and memory: the same mesh text, the same faults and the same one loop, in plain Rust
 //! without proofs. `yardstick NODE ELE` reads both files whole, tests them by the rules of docs/MESH-TEXT.md, finds cells that
-//! come twice and faces of three cells by sorting, and prints what `seq add.liszt NODE ELE` prints.
+//! come twice and faces of three cells by sorting, and prints what `seq add.liszt NODE ELE` prints. With a third word, `tables`, it finds the
+//! edges and the faces by sorting instead, and prints how many of each there are.
 
 use std::collections::BTreeMap;
 use std::io::{self, BufWriter, Write};
@@ -324,13 +325,40 @@ fn mesh(node: &[u8], ele: &[u8]) -> Result<Vec<Cell>, Fault> {
     Ok(cells)
 }
 
+/// The sets of so many corners, in order, each once.
+fn in_order<const N: usize>(mut sets: Vec<[u32; N]>) -> Vec<[u32; N]> {
+    sets.sort_unstable();
+    sets.dedup();
+    sets
+}
+
+/// The edges and the faces, in order.
+fn tables(cells: &[Cell]) -> (Vec<[u32; 2]>, Vec<[u32; 3]>) {
+    let (mut edges, mut faces) = (Vec::new(), Vec::new());
+    for cell in cells {
+        let mut corners = cell.corners;
+        corners.sort_unstable();
+        let [a, b, c, d] = corners;
+        edges.extend([[a, b], [a, c], [a, d], [b, c], [b, d], [c, d]]);
+        faces.extend([[a, b, c], [a, b, d], [a, c, d], [b, c, d]]);
+    }
+    (in_order(edges), in_order(faces))
+}
+
 fn main() -> io::Result<ExitCode> {
     let names: Vec<String> = std::env::args().skip(1).collect();
-    let [node, ele] = &names[..] else {
-        return Ok(ExitCode::from(1));
+    let (node, ele, with_tables) = match &names[..] {
+        [node, ele] => (node, ele, false),
+        [node, ele, word] if word == "tables" => (node, ele, true),
+        _ => return Ok(ExitCode::from(1)),
     };
     let mut out = BufWriter::new(io::stdout().lock());
     let status = match mesh(&std::fs::read(node)?, &std::fs::read(ele)?) {
+        Ok(cells) if with_tables => {
+            let (edges, faces) = tables(&cells);
+            writeln!(out, "edges {} faces {}", edges.len(), faces.len())?;
+            0
+        }
         Ok(cells) => {
             let mut field = vec![5i64; cells.len()];
             for value in &mut field {
