@@ -128,6 +128,11 @@ fn adds_a_number_to_each_cell(rt: HostRuntime) -> Result<(), Fail> {
     Ok(())
 }
 
+/// A point without a boundary marker, at these millionths.
+fn unmarked(x: i64, y: i64, z: i64) -> Point {
+    Point { x, y, z, mark: 0 }
+}
+
 /// The points of a node file made by hand, with a comment first and last and CR LF behind each line.
 #[test]
 fn points_made_by_hand(rt: HostRuntime) -> Result<(), Fail> {
@@ -138,42 +143,10 @@ fn points_made_by_hand(rt: HostRuntime) -> Result<(), Fail> {
     let table = or_no_memory(read_points(alloc, &rows))?;
     let points = table.list.as_slice();
     assert_eq!(&rt; points.len(), 4);
-    assert_eq!(&rt;
-        points[0],
-        Point {
-            x: 10,
-            y: -1,
-            z: 500_000,
-            mark: 0
-        }
-    );
-    assert_eq!(&rt;
-        points[1],
-        Point {
-            x: 1_000_000,
-            y: 0,
-            z: 0,
-            mark: 0
-        }
-    );
-    assert_eq!(&rt;
-        points[2],
-        Point {
-            x: 0,
-            y: 1_000_000,
-            z: 0,
-            mark: 0
-        }
-    );
-    assert_eq!(&rt;
-        points[3],
-        Point {
-            x: 0,
-            y: 0,
-            z: 1_000_000,
-            mark: 0
-        }
-    );
+    assert_eq!(&rt; points[0], unmarked(10, -1, 500_000));
+    assert_eq!(&rt; points[1], unmarked(1_000_000, 0, 0));
+    assert_eq!(&rt; points[2], unmarked(0, 1_000_000, 0));
+    assert_eq!(&rt; points[3], unmarked(0, 0, 1_000_000));
     assert_eq!(&rt; table.base, 1);
     Ok(())
 }
