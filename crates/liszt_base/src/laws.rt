@@ -1,8 +1,14 @@
-//! Laws of the operators of reductions, each the contract of a function that does nothing.
+//! Laws of reductions and limits, each the contract of a function that does nothing.
 
 ghost use Rattle.std.specs.Prelude.{◌≡◌, ℕ, ℤ, ◌<◌, ◌^◌};
 ghost use Rattle.liszt_base.specs.declared.elements.Op.{Op};
+ghost use Rattle.liszt_base.specs.Limits.{file_limit, point_limit, cell_limit, token_limit, depth_limit, name_limit, turn_limit, default_turns};
 ghost use Rattle.liszt_base.specs.Reductions.{InRange, fold, identity_of, word, value};
+
+use crate::limits::{
+    CELL_LIMIT, DEFAULT_TURNS, DEPTH_LIMIT, FILE_LIMIT, NAME_LIMIT, POINT_LIMIT, TOKEN_LIMIT,
+    TURN_LIMIT,
+};
 
 /// The order in which numbers are put together, and what is put together first, make no difference; the identity adds nothing; and
 /// numbers in range stay in range.
@@ -17,4 +23,16 @@ pub fn reductions()
 pub fn words()
     ensures back { (a : ℤ) → InRange a → value (word a) ≡ a }
     ensures there { (w : ℕ) → w < 2 ^ 64 → word (value w) ≡ w }
+{}
+
+/// The limits of the code are those of the definitions.
+pub fn limits()
+    ensures file { FILE_LIMIT ≡ file_limit }
+    ensures points { POINT_LIMIT ≡ point_limit }
+    ensures cells { CELL_LIMIT ≡ cell_limit }
+    ensures tokens { TOKEN_LIMIT ≡ token_limit }
+    ensures depth { DEPTH_LIMIT ≡ depth_limit }
+    ensures name { NAME_LIMIT ≡ name_limit }
+    ensures turns { TURN_LIMIT ≡ turn_limit }
+    ensures default { DEFAULT_TURNS ≡ default_turns }
 {}

@@ -8,6 +8,7 @@ mod cases;
 mod elements;
 mod gate;
 pub mod laws;
+mod limits;
 mod mesh;
 mod plain_list;
 mod plain_lists;
@@ -22,6 +23,10 @@ pub use answers::{
 };
 pub use elements::{Elem, Kind, Op, SetName};
 pub use gate::{Gate, OpenGate};
+pub use limits::{
+    CELL_LIMIT, DEFAULT_TURNS, DEPTH_LIMIT, FILE_LIMIT, NAME_LIMIT, POINT_LIMIT, TOKEN_LIMIT,
+    TURN_LIMIT,
+};
 pub use mesh::{CellList, Point, PointList, PointTable, RawCell, RawMesh};
 pub use plain_list::{ByteList, PlainList};
 pub use plain_lists::PlainLists;

@@ -1,5 +1,7 @@
 //! Which types threads may share, and move between one another.
 
+ghost use Rattle.std.specs.Prelude.{◌≡◌};
+
 use crate::accesses::{Access, Mode, Spot};
 use crate::answers::{
     Input, LimitFault, LimitWhat, MeshFault, MeshFile, MeshWhat, NoMemory, Place, ProgramFault,
@@ -12,40 +14,47 @@ use crate::plain_list::ByteList;
 use crate::plain_lists::PlainLists;
 use crate::word_list::WordList;
 
-fn needs_shared<T: Send + Sync>() {}
+/// One, for a type that may be shared.
+fn shared<T: Send + Sync>() -> usize
+    ensures { result ≡ 1 }
+{
+    1
+}
 
-/// Each type of this crate may be shared: this compiles.
+/// The number of types of this crate, each of which may be shared.
 #[allow(dead_code)]
-fn types_are_shared() {
-    needs_shared::<Input>();
-    needs_shared::<MeshFile>();
-    needs_shared::<MeshWhat>();
-    needs_shared::<MeshFault>();
-    needs_shared::<LimitWhat>();
-    needs_shared::<LimitFault>();
-    needs_shared::<Place>();
-    needs_shared::<ProgramWhat>();
-    needs_shared::<ProgramFault>();
-    needs_shared::<TrapKind>();
-    needs_shared::<Trap>();
-    needs_shared::<RunEnd>();
-    needs_shared::<Op>();
-    needs_shared::<Mode>();
-    needs_shared::<Spot>();
-    needs_shared::<Access>();
-    needs_shared::<Kind>();
-    needs_shared::<Elem>();
-    needs_shared::<SetName>();
-    needs_shared::<NoMemory>();
-    needs_shared::<Refused<MeshFile>>();
-    needs_shared::<OpenGate>();
-    needs_shared::<Point>();
-    needs_shared::<RawCell>();
-    needs_shared::<PointList>();
-    needs_shared::<CellList>();
-    needs_shared::<PointTable>();
-    needs_shared::<RawMesh>();
-    needs_shared::<ByteList>();
-    needs_shared::<PlainLists<u32>>();
-    needs_shared::<WordList>();
+fn shared_types() -> usize
+    ensures { result ≡ 31 }
+{
+    shared::<Input>()
+        + shared::<MeshFile>()
+        + shared::<MeshWhat>()
+        + shared::<MeshFault>()
+        + shared::<LimitWhat>()
+        + shared::<LimitFault>()
+        + shared::<Place>()
+        + shared::<ProgramWhat>()
+        + shared::<ProgramFault>()
+        + shared::<TrapKind>()
+        + shared::<Trap>()
+        + shared::<RunEnd>()
+        + shared::<Op>()
+        + shared::<Mode>()
+        + shared::<Spot>()
+        + shared::<Access>()
+        + shared::<Kind>()
+        + shared::<Elem>()
+        + shared::<SetName>()
+        + shared::<NoMemory>()
+        + shared::<Refused<MeshFile>>()
+        + shared::<OpenGate>()
+        + shared::<Point>()
+        + shared::<RawCell>()
+        + shared::<PointList>()
+        + shared::<CellList>()
+        + shared::<PointTable>()
+        + shared::<RawMesh>()
+        + shared::<ByteList>()
+        + shared::<PlainLists<u32>>()
+        + shared::<WordList>()
 }

@@ -58,7 +58,7 @@ found_at fs i name inside same before =
     let is : bytes_eq name (name_at fs i) ≡ true = rw same (same_bytes name) in
     let here : file (files_of (drop i fs)) name ≡ Some (bytes_at fs i) =
     ap (λ (l : List HeldFile). file (files_of l) name) (parts fs i inside) ∙ first ∙ rw is refl in
-    record { inside = inside; held = rw same (sym before ∙ here) }
+    record { inside = inside; contents = rw same (sym before ∙ here) }
 
 -- the file at place i hasn't the name
 pub not_at : (fs : List HeldFile) (i : ℕ) (name : List ℕ) → i < length fs → name_at fs i ≢ name → file (files_of (drop i fs)) name ≡ file (files_of fs) name

@@ -5,3 +5,4 @@ pub mod Whole
 pub mod Scripts
 pub mod Held
 pub mod InMemory
+pub mod Hosts

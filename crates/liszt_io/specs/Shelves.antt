@@ -1,66 +1,76 @@
--- What a shelf of files means: what it holds, which name is picked, and its faults. This project's own.
-use Rattle.std.specs.Prelude.{◌≡◌, ℕ, ◌+◌, ◌<◌, ◌≤◌, ◌⊎◌, List, length, take, drop, Option, Some, None, IsSome, Result, Ok, Err}
+-- The meaning of a shelf: its files, the open file, and its faults. This project's own.
+use Rattle.std.specs.Prelude.{◌≡◌, ℕ, ◌+◌, ◌-◌, ◌^◌, min, ◌<◌, ◌≤◌, ◌⊎◌, List, length, take, drop, Option, Some, None, IsSome, Result, Ok, Err}
 use Rattle.std.specs.FinMap.{FinMap, get}
 use Rattle.std.specs.Ordering.{nat_cmp}
 use Rattle.std.specs.Cmp.Lexicographic.{slice_cmp}
 use Rattle.liszt_io.specs.declared.outside.Failed.{Failed}
 use Rattle.liszt_io.specs.Causes.{Rose}
 
--- files by the bytes of their names
+-- Files by the bytes of their names.
 abbrev pub Files : Type 0
 Files = FinMap (slice_cmp nat_cmp) (List ℕ)
 
--- the bytes of the file of that name, if there is one
+-- The bytes of the file of that name, if there is one.
 abbrev pub file : Files → List ℕ → Option (List ℕ)
 file files name = get files name
 
--- a name that is picked, and the place in its bytes
-abbrev pub Picked : Type 0
-Picked = List ℕ × ℕ
+-- The name of the open file, and the place in its bytes.
+abbrev pub Cursor : Type 0
+Cursor = List ℕ × ℕ
 
--- The faults of a shelf by kind. Strays came from a name that it doesn't hold or a read with nothing picked; `last`
--- is the name that was asked for or picked at the last fault that is no stray.
+abbrev pub no_cursor : Option Cursor
+no_cursor = None
+
+-- The faults of a shelf by kind. A stray is the fault of an `open_name` of a name without a file, or of a `read` without
+-- an open file; `last` is the name that was asked for or open at the last fault that is no stray.
 pub record Tally : Type 0 where
   pub strays : ℕ
   pub others : ℕ
   pub last : Option (List ℕ)
 
--- a stray more
+abbrev pub no_faults : Tally
+no_faults = record { strays = 0; others = 0; last = None }
+
+-- The count of all faults, which stays at its last value.
+abbrev pub all_faults : Tally → ℕ
+all_faults tally = min (tally.strays + tally.others) (2 ^ 64 - 1)
+
+-- One more stray.
 pub record IsStray (before now : Tally) : Type 0 where
   pub strays : Rose before.strays now.strays
   pub others : now.others ≡ before.others
   pub last : now.last ≡ before.last
 
--- a fault more that is no stray, at that name
+-- One more fault that is no stray, at that name.
 pub record IsFaultAt (name : List ℕ) (before now : Tally) : Type 0 where
   pub strays : now.strays ≡ before.strays
   pub others : Rose before.others now.others
   pub last : now.last ≡ Some name
 
--- a fault more of a call that asked for that name: a stray exactly where no such file is held
+-- One more fault of an `open_name` of that name: a stray exactly where no file has it.
 abbrev pub FailsAt : Files → List ℕ → Tally → Tally → Type 0
 FailsAt files name before now =
     ((file files name ≡ None) × IsStray before now) ⊎ (IsSome (file files name) × IsFaultAt name before now)
 
--- what `open_name` does: it picks a file that is held, at its beginning, or leaves nothing picked
-abbrev pub Opens : Files → List ℕ → Result Unit Failed → Option Picked → Tally → Tally → Type 0
-Opens files name (Ok _) picked before now = IsSome (file files name) × (picked ≡ Some (name, 0)) × (now ≡ before)
-Opens files name (Err _) picked before now = (picked ≡ None) × FailsAt files name before now
+-- What `open_name` does: it opens the file at its beginning, or leaves none open.
+abbrev pub Opens : Files → List ℕ → Result Unit Failed → Option Cursor → Tally → Tally → Type 0
+Opens files name (Ok _) cursor before now = IsSome (file files name) × (cursor ≡ Some (name, 0)) × (now ≡ before)
+Opens files name (Err _) cursor before now = (cursor ≡ None) × FailsAt files name before now
 
--- The buffer begins with the `count` bytes that stand at `place`; no byte for a buffer with room means the end.
+-- The buffer begins with the `count` bytes at `place`; no byte for a nonempty buffer is the end.
 pub record IsPiece (bytes : List ℕ) (place count : ℕ) (buffer : List ℕ) : Type 0 where
   pub inside : place + count ≤ length bytes
   pub piece : take count buffer ≡ take count (drop place bytes)
   pub ends : count ≡ 0 → 0 < length buffer → place ≡ length bytes
 
--- What `read` does where a name is picked: it gives the next bytes and moves past them, or leaves name and place. It
--- doesn't fail for an empty buffer.
-abbrev pub Reads : List ℕ → List ℕ → ℕ → Result ℕ Failed → List ℕ → Option Picked → Tally → Tally → Type 0
-Reads name bytes place (Ok count) buffer picked before now =
-    IsPiece bytes place count buffer × (picked ≡ Some (name, place + count)) × (now ≡ before)
-Reads name bytes place (Err _) buffer picked before now = (picked ≡ Some (name, place)) × IsFaultAt name before now × (0 < length buffer)
+-- What `read` does where a file is open: it gives the next bytes and moves past them, or fails and leaves the cursor. It
+-- does not fail for an empty buffer.
+abbrev pub Reads : List ℕ → List ℕ → ℕ → Result ℕ Failed → List ℕ → Option Cursor → Tally → Tally → Type 0
+Reads name bytes place (Ok count) buffer cursor before now =
+    IsPiece bytes place count buffer × (cursor ≡ Some (name, place + count)) × (now ≡ before)
+Reads name bytes place (Err _) buffer cursor before now = (cursor ≡ Some (name, place)) × IsFaultAt name before now × (0 < length buffer)
 
--- and where none is picked: a stray
-abbrev pub ReadsNothing : Result ℕ Failed → Option Picked → Tally → Tally → Type 0
-ReadsNothing (Ok _) picked before now = ⊥
-ReadsNothing (Err _) picked before now = (picked ≡ None) × IsStray before now
+-- And where none is open: a stray.
+abbrev pub ReadsWithoutCursor : Result ℕ Failed → Option Cursor → Tally → Tally → Type 0
+ReadsWithoutCursor (Ok _) cursor before now = ⊥
+ReadsWithoutCursor (Err _) cursor before now = (cursor ≡ None) × IsStray before now

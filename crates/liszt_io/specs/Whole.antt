@@ -5,16 +5,17 @@ use Rattle.liszt_io.specs.declared.outside.WholeFault.TheVariants.{ReadFault, To
 use Rattle.liszt_io.specs.Causes.{Rose}
 use Rattle.liszt_io.specs.Shelves.{Files, file, Tally, FailsAt}
 
--- the answer and the shelf's count: a ReadFault alone comes of a fault
+-- The result and the shelf's count of faults: it rose for a ReadFault only.
 abbrev pub HasWholeCause : ℕ → ℕ → Result (List ℕ) WholeFault → Type 0
 HasWholeCause before now (Err ReadFault) = Rose before now
 HasWholeCause before now (Err TooLong) = now ≡ before
 HasWholeCause before now (Err NoMemory) = now ≡ before
 HasWholeCause before now (Ok _) = now ≡ before
 
--- what the answer says of a shelf that tells its bytes
+-- What the result says of a shelf that exposes its files.
 abbrev pub IsWhole : Files → List ℕ → ℕ → Result (List ℕ) WholeFault → Tally → Tally → Type 0
-IsWhole files name limit (Ok bytes) before now = (file files name ≡ Some bytes) × (length bytes ≤ limit) × (now ≡ before)
+IsWhole files name limit (Ok bytes) before now =
+    (file files name ≡ Some bytes) × (length bytes ≤ limit) × (now ≡ before)
 IsWhole files name limit (Err ReadFault) before now = FailsAt files name before now
 IsWhole files name limit (Err TooLong) before now =
     (bytes : List ℕ) × (file files name ≡ Some bytes) × (limit < length bytes) × (now ≡ before)

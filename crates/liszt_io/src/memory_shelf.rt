@@ -14,13 +14,12 @@ struct OpenFile {
     place: usize,
 }
 
-/// A shelf of files in memory, which fails where it is told to. No call of it takes memory.
+/// A shelf of files in memory that fails at given calls. No call of it takes memory.
 #[derive(Debug, Drop)]
 pub struct MemoryShelf {
     files: FileList,
     script: Script,
     current: Option<OpenFile>,
-    faults: u64,
     strays: u64,
     others: u64,
     last: Option<usize>,
@@ -34,8 +33,8 @@ impl MemoryShelf {
     ghost use Rattle.std.specs.Str.{bytes_eq};
     ghost use Rattle.liszt_io.specs.InMemory.{IsNewShelf};
 
-    /// A shelf of these files, whose names are different. It gives at most `step` bytes a read, and fails the calls
-    /// whose numbers, from 1 over both kinds, stand in `fails`.
+    /// A shelf of these files, whose names are different. A read gives at most `step` bytes. The calls whose
+    /// numbers, from 1 over both kinds, are in `fails` fail.
     pub fn new(files: FileList, step: usize, fails: CallList) -> MemoryShelf
         requires step { 0 < step }
         requires names { IsDistinct bytes_eq (map (λ f. f.name) files) }
@@ -49,7 +48,6 @@ impl MemoryShelf {
                 calls: 0,
             },
             current: None,
-            faults: 0,
             strays: 0,
             others: 0,
             last: None,
@@ -57,7 +55,7 @@ impl MemoryShelf {
     }
 }
 
-/// The place of the file of that name.
+/// The index of the file of that name.
 fn place_of(files: &[HeldFile], name: &[u8]) -> Option<usize>
     ensures found { IfSome result (λ i. IsFileAt files.now i) }
     ensures name { IfSome result (λ i. name_at files.now i ≡ name.now) }
@@ -71,7 +69,7 @@ fn place_of(files: &[HeldFile], name: &[u8]) -> Option<usize>
     None
 }
 
-/// Copies the bytes from `place` on, `step` of them at most, to the front of the buffer, and answers how many.
+/// Copies the bytes from `place` on, at most `step` of them, to the start of the buffer. The result is their number.
 fn copy_piece(bytes: &[u8], place: usize, step: usize, buf: &mut [u8]) -> usize
     requires inside { place ≤ length bytes.now }
     requires moves { 0 < step }
@@ -84,37 +82,36 @@ fn copy_piece(bytes: &[u8], place: usize, step: usize, buf: &mut [u8]) -> usize
 }
 
 impl Shelf for MemoryShelf {
-    ghost use Rattle.std.specs.Prelude.{◌≡◌, ℕ, ◌≤◌, List, length, Some, None, IfOk, is_ok};
+    ghost use Rattle.std.specs.Prelude.{◌≡◌, ℕ, ◌≤◌, List, length, Some, None, IfOk, is_ok, refl};
     ghost use Rattle.std.specs.Option.{option_map};
     ghost use Rattle.liszt_io.specs.Causes.{HasCause};
-    ghost use Rattle.liszt_io.specs.Shelves.{Files, file, Opens, Reads, ReadsNothing};
-    ghost use Rattle.liszt_io.specs.InMemory.{held_by, picked_in, tally_of, opens_next, reads_next, GivesNext, IsShelfLater};
+    ghost use Rattle.liszt_io.specs.Shelves.{Files, file, all_faults, Opens, Reads, ReadsWithoutCursor};
+    ghost use Rattle.liszt_io.specs.InMemory.{contents_of, cursor_of, tally_of, opens_next, reads_next, tally_after_open, tally_after_read, GivesNext, IsShelfLater};
 
-    ghost held = { λ s. Some (held_by s) };
+    ghost contents = { λ s. Some (contents_of s) };
 
-    ghost picked = { picked_in };
+    ghost cursor = { cursor_of };
 
-    ghost faults = { λ s. s.faults };
+    ghost faults = { λ s. all_faults (tally_of s) };
 
     ghost tally = { tally_of };
 
     fn open_name(&mut self, name: &str) -> Result<(), Failed>
-        ensures held { Some (held_by self.new) ≡ Some (held_by self.old) }
-        ensures cause { HasCause self.old.faults self.new.faults result }
-        ensures opens { (files : Files) → Some (held_by self.old) ≡ Some files
-            → Opens files name.now result (picked_in self.new) (tally_of self.old) (tally_of self.new) }
+        ensures contents { Some (contents_of self.new) ≡ Some (contents_of self.old) }
+        ensures cause { HasCause (all_faults (tally_of self.old)) (all_faults (tally_of self.new)) result }
+        ensures opens { (files : Files) → Some (contents_of self.old) ≡ Some files
+            → Opens files name.now result (cursor_of self.new) (tally_of self.old) (tally_of self.new) }
         ensures exact { is_ok result ≡ opens_next self.old name.now }
+        ensures counts { tally_of self.new ≡ tally_after_open self.old name.now result }
         ensures later { IsShelfLater self.old self.new }
     {
         let fails = self.script.count_call();
         self.current = None;
         let Some(index) = place_of(self.files.as_slice(), name.as_bytes()) else {
-            self.faults = self.faults.saturating_add(1);
             self.strays = self.strays.saturating_add(1);
             return Err(Failed);
         };
         if fails {
-            self.faults = self.faults.saturating_add(1);
             self.others = self.others.saturating_add(1);
             self.last = Some(index);
             return Err(Failed);
@@ -124,21 +121,21 @@ impl Shelf for MemoryShelf {
     }
 
     fn read(&mut self, buf: &mut [u8]) -> Result<usize, Failed>
-        ensures held { Some (held_by self.new) ≡ Some (held_by self.old) }
-        ensures cause { HasCause self.old.faults self.new.faults result }
+        ensures contents { Some (contents_of self.new) ≡ Some (contents_of self.old) }
+        ensures cause { HasCause (all_faults (tally_of self.old)) (all_faults (tally_of self.new)) result }
         ensures count { IfOk result (λ count. count ≤ length buf.new) }
-        ensures reads { (files : Files) (name bytes : List ℕ) (place : ℕ) → Some (held_by self.old) ≡ Some files
-            → picked_in self.old ≡ Some (name, place) → file files name ≡ Some bytes
-            → Reads name bytes place result buf.new (picked_in self.new) (tally_of self.old) (tally_of self.new) }
-        ensures nothing { (files : Files) → Some (held_by self.old) ≡ Some files → picked_in self.old ≡ None
-            → ReadsNothing result (picked_in self.new) (tally_of self.old) (tally_of self.new) }
+        ensures reads { (files : Files) (name bytes : List ℕ) (place : ℕ) → Some (contents_of self.old) ≡ Some files
+            → cursor_of self.old ≡ Some (name, place) → file files name ≡ Some bytes
+            → Reads name bytes place result buf.new (cursor_of self.new) (tally_of self.old) (tally_of self.new) }
+        ensures no_cursor { (files : Files) → Some (contents_of self.old) ≡ Some files → cursor_of self.old ≡ None
+            → ReadsWithoutCursor result (cursor_of self.new) (tally_of self.old) (tally_of self.new) }
         ensures exact { is_ok result ≡ reads_next self.old (length buf.old) }
+        ensures counts { tally_of self.new ≡ tally_after_read self.old result }
         ensures gives { IfOk result (GivesNext self.old (length buf.old)) }
         ensures later { IsShelfLater self.old self.new }
     {
         let fails = self.script.count_call();
         let Some(open) = self.current else {
-            self.faults = self.faults.saturating_add(1);
             self.strays = self.strays.saturating_add(1);
             return Err(Failed);
         };
@@ -146,7 +143,6 @@ impl Shelf for MemoryShelf {
             return Ok(0);
         }
         if fails {
-            self.faults = self.faults.saturating_add(1);
             self.others = self.others.saturating_add(1);
             self.last = Some(open.index);
             return Err(Failed);
@@ -159,4 +155,6 @@ impl Shelf for MemoryShelf {
         });
         Ok(count)
     }
+
+    ghost total = { λ s files is. refl };
 }

@@ -1,7 +1,7 @@
-ghost use Rattle.std.specs.Prelude.{◌≡◌, ℕ, ◌≤◌, List, length, Option, Some, None, IfOk};
+ghost use Rattle.std.specs.Prelude.{◌≡◌, ℕ, ◌≤◌, Bool, List, length, Option, Some, None, IfOk};
 ghost use Rattle.liszt_io.specs.Causes.{HasCause};
-ghost use Rattle.liszt_io.specs.Shelves.{Files, file, Picked, Tally, Opens, Reads, ReadsNothing};
-ghost use Rattle.liszt_io.specs.Sinks.{Takes};
+ghost use Rattle.liszt_io.specs.Shelves.{Files, file, Cursor, Tally, all_faults, Opens, Reads, ReadsWithoutCursor};
+ghost use Rattle.liszt_io.specs.Sinks.{Takes, flushed_by_write, flushed_by_flush};
 
 use thiserror::Error;
 
@@ -28,53 +28,61 @@ pub enum WholeFault {
 ///
 /// A count of faults stays at 2^64 - 1 once it is there; that it rose is said also where it stands there.
 pub trait Shelf {
-    /// What it holds, which no call changes; none where it doesn't tell.
-    ghost held: { Self → Option Files };
+    /// The files, which no call changes, where the shelf exposes them.
+    ghost contents: { Self → Option Files };
 
-    /// The name picked and the place in its bytes. It counts only where the shelf tells what it holds.
-    ghost picked: { Self → Option Picked };
+    /// The name of the open file and the place in its bytes. It has a meaning only where the shelf exposes its files.
+    ghost cursor: { Self → Option Cursor };
 
-    /// How many calls have failed.
+    /// The number of calls that have failed.
     ghost faults: { Self → ℕ };
 
-    /// The faults by kind. They count only where the shelf tells what it holds.
+    /// The faults by kind. They have a meaning only where the shelf exposes its files.
     ghost tally: { Self → Tally };
 
-    /// Picks the file of that name, at its beginning. A name that it doesn't hold is a fault.
+    /// Opens the file of that name at its beginning. A name without a file is a fault.
     fn open_name(&mut self, name: &str) -> Result<(), Failed>
-        ensures held { held self.new ≡ held self.old }
+        ensures contents { contents self.new ≡ contents self.old }
         ensures cause { HasCause (faults self.old) (faults self.new) result }
-        ensures opens { (files : Files) → held self.old ≡ Some files
-            → Opens files name.now result (picked self.new) (tally self.old) (tally self.new) };
+        ensures opens { (files : Files) → contents self.old ≡ Some files
+            → Opens files name.now result (cursor self.new) (tally self.old) (tally self.new) };
 
-    /// Puts the next bytes of the file picked at the front of the buffer, and answers how many; 0 for a buffer with
-    /// room means the end. With nothing picked it is a fault.
+    /// Puts the next bytes of the open file at the start of the buffer. The result is their number; 0 for a nonempty
+    /// buffer is the end. Without an open file it is a fault.
     fn read(&mut self, buf: &mut [u8]) -> Result<usize, Failed>
-        ensures held { held self.new ≡ held self.old }
+        ensures contents { contents self.new ≡ contents self.old }
         ensures cause { HasCause (faults self.old) (faults self.new) result }
         ensures count { IfOk result (λ count. count ≤ length buf.new) }
-        ensures reads { (files : Files) (name bytes : List ℕ) (place : ℕ) → held self.old ≡ Some files
-            → picked self.old ≡ Some (name, place) → file files name ≡ Some bytes
-            → Reads name bytes place result buf.new (picked self.new) (tally self.old) (tally self.new) }
-        ensures nothing { (files : Files) → held self.old ≡ Some files → picked self.old ≡ None
-            → ReadsNothing result (picked self.new) (tally self.old) (tally self.new) };
+        ensures reads { (files : Files) (name bytes : List ℕ) (place : ℕ) → contents self.old ≡ Some files
+            → cursor self.old ≡ Some (name, place) → file files name ≡ Some bytes
+            → Reads name bytes place result buf.new (cursor self.new) (tally self.old) (tally self.new) }
+        ensures no_cursor { (files : Files) → contents self.old ≡ Some files → cursor self.old ≡ None
+            → ReadsWithoutCursor result (cursor self.new) (tally self.old) (tally self.new) };
+
+    /// The count of faults is that of both kinds together, where the shelf exposes its files.
+    ghost total: { (s : Self) (files : Files) → contents s ≡ Some files → faults s ≡ all_faults (tally s) };
 }
 
 /// A place that takes bytes.
 pub trait Sink {
-    /// The bytes taken; none where it doesn't tell.
-    ghost taken: { Self → Option (List ℕ) };
+    /// The bytes written, where the sink exposes them.
+    ghost output: { Self → Option (List ℕ) };
 
-    /// How many calls have failed. The count stays at 2^64 - 1 once it is there.
+    /// Whether all bytes written have been flushed.
+    ghost is_flushed: { Self → Bool };
+
+    /// The number of calls that have failed. The count stays at 2^64 - 1 once it is there.
     ghost faults: { Self → ℕ };
 
-    /// Takes the first bytes of the piece, at least one of a piece that has any, and answers how many.
+    /// Takes the first bytes of the piece, at least one of a nonempty piece. The result is their number.
     fn write(&mut self, piece: &[u8]) -> Result<usize, Failed>
         ensures cause { HasCause (faults self.old) (faults self.new) result }
-        ensures takes { Takes (taken self.old) (taken self.new) piece.now result };
+        ensures takes { Takes (output self.old) (output self.new) piece.now result }
+        ensures flushed { is_flushed self.new ≡ flushed_by_write (is_flushed self.old) result };
 
-    /// Hands on what was taken.
+    /// Flushes all bytes written to their destination.
     fn flush(&mut self) -> Result<(), Failed>
         ensures cause { HasCause (faults self.old) (faults self.new) result }
-        ensures takes { taken self.new ≡ taken self.old };
+        ensures takes { output self.new ≡ output self.old }
+        ensures flushed { is_flushed self.new ≡ flushed_by_flush (is_flushed self.old) result };
 }

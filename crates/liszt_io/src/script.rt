@@ -5,18 +5,18 @@ use crate::held_file::CallList;
 /// How a shelf or a sink in memory behaves.
 #[derive(Debug, Drop)]
 pub struct Script {
-    /// How many bytes a call moves at most.
+    /// The greatest number of bytes that a call moves.
     pub step: usize,
     /// The numbers of the calls that fail, from 1.
     pub fails: CallList,
-    /// How many calls were made.
+    /// The number of calls so far.
     pub calls: u64,
 }
 
 impl Script {
     ghost use Rattle.liszt_io.specs.Scripts.{fails_next, IsCallLater};
 
-    /// Counts a call, and tells whether it is to fail.
+    /// Counts a call. The result is whether it fails.
     pub fn count_call(&mut self) -> bool
         ensures fails { result ≡ fails_next self.old }
         ensures later { IsCallLater self.old self.new }

@@ -8,17 +8,17 @@ use crate::outside::{Shelf, Sink, WholeFault, WriteFault};
 use liszt_base::ByteList;
 use std::alloc::Global;
 
-/// Reads the file of that name whole, unless it has more than `limit` bytes. Nothing past the limit is kept.
+/// Reads the file of a name whole, unless it has more than `limit` bytes. No byte past the limit is kept.
 pub fn read_whole<F: Shelf>(
     alloc: Global,
     shelf: &mut F,
     name: &str,
     limit: usize,
 ) -> Result<ByteList, WholeFault>
-    ensures held { F.held shelf.new ≡ F.held shelf.old }
+    ensures contents { F.contents shelf.new ≡ F.contents shelf.old }
     ensures cause { HasWholeCause (F.faults shelf.old) (F.faults shelf.new) result }
     ensures short { IfOk result (λ bytes. length bytes ≤ limit) }
-    ensures whole { (files : Files) → F.held shelf.old ≡ Some files
+    ensures whole { (files : Files) → F.contents shelf.old ≡ Some files
         → IsWhole files name.now limit result (F.tally shelf.old) (F.tally shelf.new) }
 {
     let mut bytes = ByteList::new(alloc);
@@ -44,10 +44,10 @@ pub fn read_whole<F: Shelf>(
     }
 }
 
-/// Writes all the bytes, or a front of them where the sink fails.
+/// Writes all the bytes, or a prefix of them where the sink fails. Flushes nothing.
 pub fn write_whole<S: Sink>(out: &mut S, bytes: &[u8]) -> Result<(), WriteFault>
     ensures cause { HasCause (S.faults out.old) (S.faults out.new) result }
-    ensures writes { Writes bytes.now (S.taken out.old) (S.taken out.new) result }
+    ensures writes { Writes bytes.now (S.output out.old) (S.output out.new) result }
 {
     let mut done = 0;
     while done < bytes.len() {

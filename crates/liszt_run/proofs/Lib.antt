@@ -1,4 +1,0 @@
-pub mod Expected
-pub mod Steps
-pub mod Texts
-pub mod Simples

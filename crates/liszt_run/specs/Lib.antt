@@ -1,5 +1,1 @@
-pub mod Endings
-pub mod Expected
-pub mod Answers
-pub mod Simple
-pub mod SimpleReading
+pub mod Arguments

@@ -5,8 +5,8 @@ use Rattle.liszt_io.proofs.whole.read_whole.Given as goal
 
 abbrev pub invariant-loop-bytes : goal.invariant-loop-bytes
 invariant-loop-bytes g l =
-    (length l.bytes ≤ l.limit) × (0 < length l.buffer) × (g.F.Shelf.held l.shelf ≡ g.F.Shelf.held l.fn.shelf) × (g.F.Shelf.faults l.shelf ≡ g.F.Shelf.faults l.fn.shelf)
-    × ((files : Files) → g.F.Shelf.held l.fn.shelf ≡ Some files → IsReading files l.name l.bytes (g.F.Shelf.picked l.shelf) (g.F.Shelf.tally l.fn.shelf) (g.F.Shelf.tally l.shelf))
+    (length l.bytes ≤ l.limit) × (0 < length l.buffer) × (g.F.Shelf.contents l.shelf ≡ g.F.Shelf.contents l.fn.shelf) × (g.F.Shelf.faults l.shelf ≡ g.F.Shelf.faults l.fn.shelf)
+    × ((files : Files) → g.F.Shelf.contents l.fn.shelf ≡ Some files → IsReading files l.name l.bytes (g.F.Shelf.cursor l.shelf) (g.F.Shelf.tally l.fn.shelf) (g.F.Shelf.tally l.shelf))
 
 abbrev pub decreases-loop-bytes : goal.decreases-loop-bytes
 decreases-loop-bytes g l = l.limit - length l.bytes

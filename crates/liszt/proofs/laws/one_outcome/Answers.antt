@@ -1,0 +1,5 @@
+use Rattle.liszt.proofs.Expected.{one_expected}
+use Rattle.liszt.proofs.laws.one_outcome.Goals as goal
+
+pub returns : goal.returns
+returns c = one_expected

@@ -1,0 +1,81 @@
+-- What the top call answers over a shelf and a sink. This project's own.
+use Rattle.std.specs.Prelude.{◌≡◌, ℕ, ◌≤◌, ◌⊎◌, List, Option, Some, None, MatchOption}
+use Rattle.std.specs.Io.KnownBytes.{append_known}
+use Rattle.liszt_base.specs.MeshLists.{MeshLists}
+use Rattle.liszt_io.specs.Causes.{Rose}
+use Rattle.liszt_io.specs.Shelves.{Files, file, Tally}
+use Rattle.liszt_io.specs.Sinks.{TakesPrefix}
+use Rattle.liszt_report.specs.declared.ended.Ended.{Ended}
+use Rattle.liszt_report.specs.declared.ended.Ended.TheVariants.{Done, Usage, ReadFault, WriteFault, NoMemory}
+use Rattle.liszt_report.specs.Endings.{ending_text}
+use Rattle.liszt.specs.declared.top.Step.{Step}
+use Rattle.liszt.specs.declared.top.Step.TheVariants.{Ended as EndedNow}
+use Rattle.liszt.specs.Expected.{Outcome, refusal, ResultsIn}
+use Rattle.liszt.specs.Simple.{Simple, done_text}
+use Rattle.command_words.specs.Commands.{command_of}
+
+-- The shelf has no file of that name, or a fault that is no stray was counted in the call, the last one at that name.
+abbrev pub IsLost : Files → Tally → Tally → List ℕ → Type 0
+IsLost files before now name =
+    (file files name ≡ None) ⊎ (Rose before.others now.others × (now.last ≡ Some name))
+
+-- The words and the files result in the ending, and the sink took the whole of its text.
+abbrev pub EndsWith : List (List ℕ) → Files → Tally → Tally
+    → Option (List ℕ) → Option (List ℕ) → Ended → Type 0
+EndsWith words files before now old new ended =
+    (text : List ℕ)
+    × ResultsIn (IsLost files before now) words files (record { ended = ended; text = text })
+    × (new ≡ append_known old text)
+
+-- The shelf's count at an ending: it rose for a ReadFault only.
+abbrev pub HasShelfCause : ℕ → ℕ → Ended → Type 0
+HasShelfCause shelf shelf' (ReadFault x) = Rose shelf shelf'
+HasShelfCause shelf shelf' ended = shelf' ≡ shelf
+
+-- What an answer says where the shelf exposes its files. NoMemory is free, and its line was taken. After a WriteFault
+-- the sink took a prefix of the text that was being written. Every other ending is the one in which the words and the
+-- files result, and the sink took its text.
+abbrev pub Answers : List (List ℕ) → Files → Tally → Tally → ℕ → ℕ
+    → Option (List ℕ) → Option (List ℕ) → Ended → Type 0
+Answers words files before now shelf shelf' old new NoMemory = new ≡ append_known old (ending_text NoMemory)
+Answers words files before now shelf shelf' old new WriteFault =
+    (outcome : Outcome)
+    × (ResultsIn (IsLost files before now) words files outcome ⊎ (outcome ≡ refusal NoMemory))
+    × TakesPrefix old new outcome.text
+    × HasShelfCause shelf shelf' outcome.ended
+Answers words files before now shelf shelf' old new ended = EndsWith words files before now old new ended
+
+-- A text that the words can result in, over any files.
+abbrev pub IsTextOf : List (List ℕ) → List ℕ → Type 0
+IsTextOf words text = MatchOption (command_of words) (text ≡ ending_text Usage) (λ _.
+    ((ended : Ended) × (text ≡ ending_text ended))
+    ⊎ ((simple : Simple) × (mesh : MeshLists) × (text ≡ done_text simple mesh)))
+
+-- What the sink took, over any shelf: the line of a refusal, the text of a program on a mesh, or a prefix of one of these.
+abbrev pub Wrote : List (List ℕ) → Option (List ℕ) → Option (List ℕ) → Ended → Type 0
+Wrote words old new Done =
+    (simple : Simple) × (mesh : MeshLists) × (new ≡ append_known old (done_text simple mesh))
+Wrote words old new WriteFault = (text : List ℕ) × IsTextOf words text × TakesPrefix old new text
+Wrote words old new ended = new ≡ append_known old (ending_text ended)
+
+-- The counts of faults at an answer: the shelf's rose for a ReadFault only, and the sink's for a WriteFault only. At a
+-- WriteFault the shelf's may have risen, for the read fault whose line was being written.
+abbrev pub HasCauses : ℕ → ℕ → ℕ → ℕ → Ended → Type 0
+HasCauses shelf shelf' sink sink' (ReadFault x) = Rose shelf shelf' × (sink' ≡ sink)
+HasCauses shelf shelf' sink sink' WriteFault = (shelf ≤ shelf') × Rose sink sink'
+HasCauses shelf shelf' sink sink' ended = (shelf' ≡ shelf) × (sink' ≡ sink)
+
+-- The answer is the outcome, and the sink took its whole text; or it is NoMemory.
+abbrev pub IsOutcome : Outcome → Option (List ℕ) → Option (List ℕ) → Ended → Type 0
+IsOutcome outcome old new ended =
+    ((ended ≡ outcome.ended) × (new ≡ append_known old outcome.text)) ⊎ (ended ≡ NoMemory)
+
+-- A run ends with a refusal: the sink took its line, or a prefix of the line and then failed.
+abbrev pub Refuses : Ended → Option (List ℕ) → Option (List ℕ) → Ended → Type 0
+Refuses refused old new ended =
+    ((ended ≡ refused) × (new ≡ append_known old (ending_text refused)))
+    ⊎ ((ended ≡ WriteFault) × TakesPrefix old new (ending_text refused))
+
+-- The ending that a step leaves.
+abbrev pub ended_of : Step → Ended
+ended_of (EndedNow ended) = ended

@@ -1,0 +1,111 @@
+-- The ending and the text in which a list of words and files result. Memory has no part in it. This project's own.
+use Rattle.std.specs.Prelude.{◌≡◌, ℕ, ◌<◌, ◌≤◌, ◌⊎◌, List, length, MatchOption, Some, None, Result, Ok, Err}
+use Rattle.liszt_base.specs.declared.answers.Input.{Input}
+use Rattle.liszt_base.specs.declared.answers.Input.TheVariants.{Program, Node, Ele}
+use Rattle.liszt_base.specs.declared.answers.MeshFault.{MeshFault}
+use Rattle.liszt_base.specs.declared.mesh.PointTable.{PointTable}
+use Rattle.liszt_base.specs.MeshLists.{MeshLists}
+use Rattle.liszt_io.specs.Shelves.{Files, file}
+use Rattle.liszt_base.specs.declared.answers.ProgramFault.{ProgramFault}
+use Rattle.liszt_lexer.specs.Lexer.{tokens_of, end_of}
+use Rattle.liszt_lexer.specs.declared.token.Token.{Token}
+use Rattle.liszt_parser.specs.Grammar.{lexemes, Derives}
+use Rattle.liszt_parser.specs.ParseFault.{IsShallow, IsParseFault}
+use Rattle.liszt_tree.specs.Tree.{Main}
+use Rattle.text_scan.specs.Rows.{text_rows}
+use Rattle.tet_reader.specs.Answers.{SpellTable, SpellMesh}
+use Rattle.tet_reader.specs.Faults.{node_fault, cells_fault}
+use Rattle.liszt_report.specs.declared.ended.Ended.{Ended}
+use Rattle.liszt_report.specs.declared.ended.Ended.TheVariants.{Done, Usage, Later, ReadFault}
+use Rattle.command_words.specs.Commands.{command_of, SeqCommand}
+use Rattle.liszt_report.specs.Endings.{ending_text, too_long, program_ending, mesh_ending}
+use Rattle.liszt_base.specs.Limits.{file_limit}
+use Rattle.liszt.specs.Simple.{Simple, IsSimple, done_text}
+
+-- An ending and its text.
+pub record Outcome : Type 0 where
+  pub ended : Ended
+  pub text : List ℕ
+
+-- The outcome of a refusal: its ending and its line.
+abbrev pub refusal : Ended → Outcome
+refusal ended = record { ended = ended; text = ending_text ended }
+
+-- THE RESULT OF A FILE'S BYTES: the value that they spell, or the ending of their first fault.
+
+-- The first fault of a program's text: of its tokens, or else of its grammar.
+abbrev pub IsProgramFault : List ℕ → ProgramFault → Type 0
+IsProgramFault bytes fault =
+    (tokens_of bytes ≡ Err fault)
+    ⊎ ((tokens : List Token) × (tokens_of bytes ≡ Ok tokens)
+    × IsParseFault (lexemes bytes tokens) (end_of bytes) (Some fault))
+
+-- A program's tree, nowhere deeper than the limit, or the ending of its first fault.
+abbrev pub ProgramResult : List ℕ → Result Main Ended → Type 0
+ProgramResult bytes (Ok tree) =
+    (tokens : List Token) × (tokens_of bytes ≡ Ok tokens) × Derives (lexemes bytes tokens) tree
+    × IsShallow (lexemes bytes tokens) (length (lexemes bytes tokens))
+ProgramResult bytes (Err ended) =
+    (fault : ProgramFault) × IsProgramFault bytes fault × (ended ≡ program_ending fault)
+
+-- The points of a node file, or the ending of its first fault.
+abbrev pub NodeResult : List ℕ → Result PointTable Ended → Type 0
+NodeResult bytes (Ok table) = SpellTable (text_rows bytes) table
+NodeResult bytes (Err ended) =
+    (fault : MeshFault) × (node_fault (text_rows bytes) ≡ Some fault) × (ended ≡ mesh_ending fault)
+
+-- The mesh of an ele file over points, or the ending of its first fault, those of the whole mesh among them.
+abbrev pub EleResult : PointTable → List ℕ → Result MeshLists Ended → Type 0
+EleResult table bytes (Ok mesh) = SpellMesh table (text_rows bytes) mesh
+EleResult table bytes (Err ended) =
+    (fault : MeshFault) × (cells_fault (length table.list) table.base (text_rows bytes) ≡ Some fault)
+    × (ended ≡ mesh_ending fault)
+
+-- The result of bytes within the limit; the result of more bytes is that limit.
+abbrev pub Within : {A : Type 0} → Input → (List ℕ → Result A Ended → Type 0)
+    → List ℕ → Result A Ended → Type 0
+Within input HasResult bytes result =
+    ((file_limit < length bytes) × (result ≡ Err (too_long input)))
+    ⊎ ((length bytes ≤ file_limit) × HasResult bytes result)
+
+-- THE INPUTS OF A COMMAND, one after the other.
+
+-- After the result of an input: the command continues with its value, or the outcome is the refusal.
+abbrev pub Follows : {A : Type 0} → (A → Outcome → Type 0) → Result A Ended → Outcome → Type 0
+Follows Continues (Ok value) outcome = Continues value outcome
+Follows Continues (Err ended) outcome = outcome ≡ refusal ended
+
+-- An input is missing, or its bytes have a result, which the rest of the command follows.
+abbrev pub TakesIn : {A : Type 0} → (List ℕ → Type 0) → Files → Input → List ℕ
+    → (List ℕ → Result A Ended → Type 0) → (A → Outcome → Type 0) → Outcome → Type 0
+TakesIn {A} IsMissing files input name HasResult Continues outcome =
+    (IsMissing name × (outcome ≡ refusal (ReadFault input)))
+    ⊎ ((bytes : List ℕ) × (result : Result A Ended) × (file files name ≡ Some bytes)
+    × Within input HasResult bytes result × Follows Continues result outcome)
+
+-- A simple program is run on the mesh; each other program is for later.
+abbrev pub Finishes : Main → MeshLists → Outcome → Type 0
+Finishes tree mesh outcome =
+    ((simple : Simple) × IsSimple tree simple
+    × (outcome ≡ record { ended = Done; text = done_text simple mesh }))
+    ⊎ (((simple : Simple) → IsSimple tree simple → ⊥) × (outcome ≡ refusal Later))
+
+abbrev pub TakesCells : (List ℕ → Type 0) → Files → SeqCommand → Main → PointTable → Outcome → Type 0
+TakesCells IsMissing files c tree table = TakesIn IsMissing files Ele c.ele (EleResult table) (Finishes tree)
+
+abbrev pub TakesPoints : (List ℕ → Type 0) → Files → SeqCommand → Main → Outcome → Type 0
+TakesPoints IsMissing files c tree =
+    TakesIn IsMissing files Node c.node NodeResult (TakesCells IsMissing files c tree)
+
+-- `seq`: the program, the points and the cells are read, in this order, and then the program is run.
+abbrev pub Seq : (List ℕ → Type 0) → Files → SeqCommand → Outcome → Type 0
+Seq IsMissing files c = TakesIn IsMissing files Program c.program ProgramResult (TakesPoints IsMissing files c)
+
+-- The outcome of a list of words, where `IsMissing` says which files are missing.
+abbrev pub ResultsIn : (List ℕ → Type 0) → List (List ℕ) → Files → Outcome → Type 0
+ResultsIn IsMissing words files outcome =
+    MatchOption (command_of words) (outcome ≡ refusal Usage) (λ c. Seq IsMissing files c outcome)
+
+-- The outcome of the words over these files, of which a file is missing where none has its name.
+abbrev pub Expected : List (List ℕ) → Files → Outcome → Type 0
+Expected words files = ResultsIn (λ name. file files name ≡ None) words files

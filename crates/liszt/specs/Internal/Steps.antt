@@ -1,0 +1,75 @@
+-- What the steps before the text answer. Private functions' contracts cite it.
+use Rattle.std.specs.Prelude.{◌≡◌, ℕ, ◌⊎◌, List, length, Some, Result, Ok, Err}
+use Rattle.liszt_base.specs.MeshLists.{MeshLists}
+use Rattle.liszt_base.specs.declared.answers.Input.{Input}
+use Rattle.liszt_base.specs.declared.answers.ProgramFault.{ProgramFault}
+use Rattle.liszt_base.specs.declared.answers.Refused.{Refused}
+use Rattle.liszt_base.specs.declared.answers.Refused.TheVariants.{Fault, NoMemory as OutOfMemory}
+use Rattle.liszt_io.specs.Causes.{Rose}
+use Rattle.liszt_io.specs.Shelves.{Files, file, Tally}
+use Rattle.liszt_report.specs.declared.ended.Ended.{Ended}
+use Rattle.liszt_report.specs.declared.ended.Ended.TheVariants.{Done, Later, ReadFault, WriteFault, NoMemory}
+use Rattle.liszt_report.specs.Endings.{field_text}
+use Rattle.liszt_tree.specs.declared.tree.Program.{Program}
+use Rattle.liszt_tree.specs.Tree.{Main, program_tree}
+use Rattle.text_scan.specs.Rows.{TextRows, text_rows}
+use Rattle.liszt.specs.declared.job.Job.{Job}
+use Rattle.liszt.specs.Answers.{IsLost}
+use Rattle.liszt.specs.Expected.{refusal, Within, ResultsIn, IsProgramFault, ProgramResult}
+use Rattle.liszt.specs.Simple.{Simple, IsSimple, done_text}
+
+-- The answer of a step that reads an input, and the shelf's count: it rose for a ReadFault only.
+abbrev pub HasStepCause : {A : Type 0} → ℕ → ℕ → Result A Ended → Type 0
+HasStepCause before now (Ok value) = now ≡ before
+HasStepCause before now (Err (ReadFault x)) = Rose before now
+HasStepCause before now (Err Done) = ⊥
+HasStepCause before now (Err WriteFault) = ⊥
+HasStepCause before now (Err ended) = now ≡ before
+
+-- The answer of a step where the shelf exposes its files: the result of the file's bytes, or the file is lost, or
+-- memory is.
+abbrev pub StepGives : {A : Type 0} → Files → Input → List ℕ → (List ℕ → Result A Ended → Type 0)
+    → Tally → Tally → Result A Ended → Type 0
+StepGives files input name HasResult before now (Ok value) =
+    (bytes : List ℕ) × (file files name ≡ Some bytes) × Within input HasResult bytes (Ok value) × (now ≡ before)
+StepGives files input name HasResult before now (Err ended) =
+    (ended ≡ NoMemory) ⊎ (((ended ≡ ReadFault input) × IsLost files before now name)
+    ⊎ ((bytes : List ℕ) × (file files name ≡ Some bytes) × Within input HasResult bytes (Err ended)))
+
+-- A result that is a program, by its tree.
+abbrev pub as_tree : Result Program Ended → Result Main Ended
+as_tree (Ok program) = Ok (program_tree program)
+as_tree (Err ended) = Err ended
+
+-- The result of bytes is these bytes.
+abbrev pub IsItself : List ℕ → Result (List ℕ) Ended → Type 0
+IsItself bytes (Ok value) = value ≡ bytes
+IsItself bytes (Err ended) = ⊥
+
+-- The result of bytes is their rows.
+abbrev pub AreItsRows : List ℕ → Result TextRows Ended → Type 0
+AreItsRows bytes (Ok rows) = rows ≡ text_rows bytes
+AreItsRows bytes (Err ended) = ⊥
+
+-- The lines that a job writes.
+abbrev pub job_text : Job → List ℕ
+job_text job = field_text job.name (λ _. job.value) (length job.mesh.cells)
+
+-- A program on a mesh is a job that writes the text of a simple program, or it does not run yet.
+abbrev pub MakesJob : Main → MeshLists → Result Job Ended → Type 0
+MakesJob tree mesh (Ok job) = (simple : Simple) × IsSimple tree simple × (job_text job ≡ done_text simple mesh)
+MakesJob tree mesh (Err ended) =
+    (ended ≡ NoMemory) ⊎ ((ended ≡ Later) × ((simple : Simple) → IsSimple tree simple → ⊥))
+
+-- The result of a program's text is its tree or its first fault.
+abbrev pub ReadsProgram : List ℕ → Result Program (Refused ProgramFault) → Type 0
+ReadsProgram text (Ok program) = ProgramResult text (Ok (program_tree program))
+ReadsProgram text (Err (Fault fault)) = IsProgramFault text fault
+ReadsProgram text (Err OutOfMemory) = Unit {0}
+
+-- What is known before anything is written: the job whose lines are the outcome's text, or the refusal.
+abbrev pub Prepares : List (List ℕ) → Files → Tally → Tally → Result Job Ended → Type 0
+Prepares words files before now (Ok job) =
+    ResultsIn (IsLost files before now) words files (record { ended = Done; text = job_text job })
+Prepares words files before now (Err ended) =
+    (ended ≡ NoMemory) ⊎ ResultsIn (IsLost files before now) words files (refusal ended)

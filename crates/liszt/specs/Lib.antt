@@ -1,0 +1,4 @@
+pub mod Expected
+pub mod Answers
+pub mod Simple
+pub mod Internal

@@ -1,0 +1,67 @@
+ghost use Rattle.std.specs.Prelude.{◌≡◌, OnOk, true, MatchResult};
+ghost use Rattle.liszt_io.specs.Causes.{Rose, HasCause};
+ghost use Rattle.liszt_io.specs.Sinks.{Writes};
+ghost use Rattle.liszt_report.specs.declared.ended.Ended.TheVariants.{WriteFault as NotWritten};
+ghost use Rattle.liszt_report.specs.Endings.{ending_text};
+ghost use Rattle.liszt.specs.Answers.{Refuses};
+ghost use Rattle.liszt.specs.Internal.Steps.{job_text};
+
+use crate::job::Job;
+use liszt_io::{Sink, WriteFault};
+use liszt_report::{Ended, write_ending, write_values};
+
+/// Writes the line of a refusal and flushes.
+pub fn write_refusal<S: Sink>(out: &mut S, ended: &Ended) -> Result<(), WriteFault>
+    ensures cause { HasCause (S.faults out.old) (S.faults out.new) result }
+    ensures writes { Writes (ending_text ended.now) (S.output out.old) (S.output out.new) result }
+    ensures flushed { OnOk result (S.is_flushed out.new ≡ true) }
+{
+    match write_ending(out, ended) {
+        Ok(()) => flush(out),
+        Err(fault) => Err(fault),
+    }
+}
+
+/// Writes the lines of a job, one for each cell, and flushes.
+pub fn write_job<S: Sink>(out: &mut S, job: &Job) -> Result<(), WriteFault>
+    ensures cause { HasCause (S.faults out.old) (S.faults out.new) result }
+    ensures writes { Writes (job_text job.now) (S.output out.old) (S.output out.new) result }
+    ensures flushed { OnOk result (S.is_flushed out.new ≡ true) }
+{
+    match write_values(out, job.name.as_slice(), job.value, job.mesh.cells().len()) {
+        Ok(()) => flush(out),
+        Err(fault) => Err(fault),
+    }
+}
+
+/// Flushes the sink.
+fn flush<S: Sink>(out: &mut S) -> Result<(), WriteFault>
+    ensures cause { HasCause (S.faults out.old) (S.faults out.new) result }
+    ensures taken { S.output out.new ≡ S.output out.old }
+    ensures flushed { OnOk result (S.is_flushed out.new ≡ true) }
+{
+    match out.flush() {
+        Ok(()) => Ok(()),
+        Err(_) => Err(WriteFault),
+    }
+}
+
+/// The ending, or `WriteFault` where its text was not written.
+pub fn ended_by(written: Result<(), WriteFault>, ended: Ended) -> Ended
+    ensures { MatchResult written (λ _. result ≡ ended) (λ _. result ≡ NotWritten) }
+{
+    match written {
+        Ok(()) => ended,
+        Err(_) => Ended::WriteFault,
+    }
+}
+
+/// Ends a run by a refusal: writes its line and flushes. The result is the refusal, or `WriteFault`.
+pub fn end_refused<S: Sink>(out: &mut S, ended: Ended) -> Ended
+    ensures refuses { Refuses ended (S.output out.old) (S.output out.new) result }
+    ensures flushed { (result ≡ NotWritten → ⊥) → S.is_flushed out.new ≡ true }
+    ensures cause { (ended ≡ NotWritten → ⊥) → result ≡ NotWritten
+        → Rose (S.faults out.old) (S.faults out.new) }
+{
+    ended_by(write_refusal(out, &ended), ended)
+}

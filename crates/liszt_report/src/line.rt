@@ -1,0 +1,116 @@
+ghost use Rattle.std.specs.Prelude.{◌≡◌, ◌+◌, ◌<◌, ◌≤◌, ◌^◌, [], ◌++◌, length};
+ghost use Rattle.liszt_report.specs.declared.ended.Ended.TheVariants.{Program as OfProgram, Mesh as OfMesh};
+ghost use Rattle.liszt_report.specs.Endings.{ending_text, value_line, limit_line, limit_word, place_text};
+
+use crate::ended::Ended;
+use crate::word::{input_word, mesh_file_word, mesh_word, program_word};
+use liszt_base::{LimitWhat, MeshFault, Place, ProgramFault};
+use text_scan::LineBuf;
+
+/// Replaces the buffer's bytes with the line of an ending. `Done` and `WriteFault` have none.
+pub fn set_ending(line: &mut LineBuf, ended: Ended)
+    ensures { line.new ≡ ending_text ended }
+{
+    line.clear();
+    match ended {
+        Ended::Usage => line.text(
+            b"usage: liszt_run MODE PROGRAM NODE ELE [--workers N] [--ranks N] [--parts NAME] [--turns L] or self N\n",
+        ),
+        Ended::Later => line.text(b"later program\n"),
+        Ended::Program(fault) => append_program_fault(line, fault),
+        Ended::Mesh(fault) => append_mesh_fault(line, fault),
+        Ended::Limit(fault) => append_limit(line, fault.what, fault.allowed),
+        Ended::ReadFault(input) => {
+            line.text(b"read fault ");
+            line.text(input_word(input));
+            line.text(b"\n");
+        }
+        Ended::NoMemory => line.text(b"no memory\n"),
+        Ended::Done | Ended::WriteFault => {}
+    }
+}
+
+/// Replaces the buffer's bytes with `NAME ID VALUE`.
+pub fn set_value(line: &mut LineBuf, name: &[u8], id: usize, value: i64)
+    requires id { id < 2 ^ 63 }
+    requires name { length name.now ≤ 64 }
+    ensures { line.new ≡ value_line name.now id value }
+{
+    line.clear();
+    line.text(name);
+    line.text(b" ");
+    line.number(id as i64);
+    line.text(b" ");
+    line.number(value);
+    line.text(b"\n");
+}
+
+/// Appends the fault's line to an empty buffer.
+fn append_program_fault(line: &mut LineBuf, fault: ProgramFault)
+    requires { line.old ≡ [] }
+    ensures { line.new ≡ ending_text (OfProgram fault) }
+{
+    line.text(b"program ");
+    line.text(program_word(fault.what));
+    line.text(b" ");
+    append_place(line, fault.place);
+    if let Some(first) = fault.first {
+        line.text(b" first ");
+        append_place(line, first);
+    }
+    line.text(b"\n");
+}
+
+/// Appends `LINE:COL`.
+fn append_place(line: &mut LineBuf, place: Place)
+    requires { length line.old ≤ 100 }
+    ensures text { line.new ≡ line.old ++ place_text place }
+    ensures short { length line.new ≤ length line.old + 41 }
+{
+    line.count(u64::from(place.line));
+    line.text(b":");
+    line.count(u64::from(place.col));
+}
+
+/// Appends the fault's line to an empty buffer.
+fn append_mesh_fault(line: &mut LineBuf, fault: MeshFault)
+    requires { line.old ≡ [] }
+    ensures { line.new ≡ ending_text (OfMesh fault) }
+{
+    line.text(b"mesh ");
+    line.text(mesh_file_word(fault.file));
+    line.text(b" ");
+    line.text(mesh_word(fault.what));
+    line.text(b" line ");
+    line.count(u64::from(fault.line));
+    line.text(b"\n");
+}
+
+/// Appends the limit's line to an empty buffer.
+fn append_limit(line: &mut LineBuf, what: LimitWhat, allowed: u64)
+    requires { line.old ≡ [] }
+    ensures { line.new ≡ limit_line what allowed }
+{
+    line.text(b"limit ");
+    append_limit_word(line, what);
+    line.text(b" over ");
+    line.count(allowed);
+    line.text(b"\n");
+}
+
+/// Appends the words for what has a limit.
+fn append_limit_word(line: &mut LineBuf, what: LimitWhat)
+    requires { length line.old ≤ 200 }
+    ensures text { line.new ≡ line.old ++ limit_word what }
+    ensures short { length line.new ≤ length line.old + 12 }
+{
+    match what {
+        LimitWhat::File(input) => {
+            line.text(b"File ");
+            line.text(input_word(input));
+        }
+        LimitWhat::Points => line.text(b"Points"),
+        LimitWhat::Cells => line.text(b"Cells"),
+        LimitWhat::Tokens => line.text(b"Tokens"),
+    }
+}

@@ -1,8 +1,0 @@
-use Rattle.std.proofs.Common.{rules, length, ap, arith}
-use Rattle.mesh_topology.proofs.Few.{fits}
-use Rattle.liszt_run.proofs.incidence.is_right.Goals as goal
-
-pub build-requires-clause-fits : goal.build-requires-clause-fits
-build-requires-clause-fits c =
-    fits c.in-Ok.raw (search rules) (omega (arith, c.if-points-gt1000.false, ap length c.points.ensures))
-    (omega (arith, c.if-cells-gt1000.false, ap length c.cells.ensures))

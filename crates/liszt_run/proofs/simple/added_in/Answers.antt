@@ -1,6 +1,0 @@
-use Rattle.std.proofs.Common.{ap, sym, length, ◌∙◌}
-use Rattle.liszt_run.proofs.Simples.{none_in}
-use Rattle.liszt_run.proofs.simple.added_in.Goals as goal
-
-pub returns-else-statements-eq1 : goal.returns-else-statements-eq1
-returns-else-statements-eq1 c = sym (none_in c.args.body.now (λ e. c.if-statements-eq1.false (ap length c.as_slice-statements.ensures ∙ e)))
