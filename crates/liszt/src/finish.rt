@@ -37,7 +37,7 @@ pub fn write_job<S: Sink>(out: &mut S, job: &Job) -> Result<(), WriteFault>
 /// Flushes the sink.
 fn flush<S: Sink>(out: &mut S) -> Result<(), WriteFault>
     ensures cause { HasCause (S.faults out.old) (S.faults out.new) result }
-    ensures taken { S.output out.new ≡ S.output out.old }
+    ensures unchanged { S.output out.new ≡ S.output out.old }
     ensures flushed { OnOk result (S.is_flushed out.new ≡ true) }
 {
     match out.flush() {

@@ -72,7 +72,8 @@ pub fn run_returning<R: Threads + Sync, F: Shelf, S: Sink, G: Gate + Sync>(
 ) -> Step
     ensures answers { (files : Files) → F.contents shelf.old ≡ Some files
         → Answers words.now files (F.tally shelf.old) (F.tally shelf.new)
-        (F.faults shelf.old) (F.faults shelf.new) (S.output out.old) (S.output out.new) (ended_of result) }
+        (F.faults shelf.old) (F.faults shelf.new) (S.output out.old) (S.output out.new)
+        (ended_of result) }
     ensures wrote { Wrote words.now (S.output out.old) (S.output out.new) (ended_of result) }
     ensures flushed { (ended_of result ≡ NotWritten → ⊥) → S.is_flushed out.new ≡ true }
     ensures complete { (files : Files) (outcome : Outcome) → F.contents shelf.old ≡ Some files

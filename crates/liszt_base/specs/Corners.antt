@@ -40,7 +40,7 @@ along test earlier (x ∷ xs) = test earlier x ∷ along test (earlier ++ x ∷ 
 abbrev pub FitTogether : List (List ℕ) → Type 0
 FitTogether cells = (list_any (λ b. b) (along comes_again [] cells) ≡ false) × (list_any (λ b. b) (along is_third [] cells) ≡ false)
 
--- the four corners of a cell are four of so many points
+-- the four corners of a cell are four different points
 abbrev pub IsCell : ℕ → List ℕ → Type 0
 IsCell points corners = (length corners ≡ 4) × (are_different corners ≡ true) × (list_all (λ v. nat_lt v points) corners ≡ true)
 

@@ -13,7 +13,7 @@ use Rattle.std.proofs.lemmas.List.{append-nil}
 use Rattle.liszt_io.specs.declared.outside.WriteFault.{WriteFault}
 use Rattle.liszt_io.specs.Causes.{HasCause}
 use Rattle.liszt_io.specs.Sinks.{TakesPrefix, Writes}
-use Rattle.liszt_io.proofs.Pieces.{append_known-append}
+use Rattle.liszt_io.proofs.PieceLemmas.{append_known-append}
 use Rattle.liszt_report.specs.Endings.{value_line, field_text}
 
 -- the texts of numbers from a on, and of more of them
@@ -33,7 +33,7 @@ text_parts name value id more =
 pub text_more : (name : List ℕ) (value : ℕ → ℤ) (id : ℕ) → field_text name value (id + 1) ≡ field_text name value id ++ value_line name id (value id)
 text_more name value id = text_parts name value id 1 ∙ ap (λ (l : List ℕ). field_text name value id ++ l) (append-nil (value_line name id (value id)))
 
--- The text was taken, and flushing took nothing.
+-- The sink took the text, and the flush took nothing.
 pub flushed : (text : List ℕ) (old taken new : Option (List ℕ)) (result : Result Unit WriteFault)
     → taken ≡ append_known old text → new ≡ taken → Writes text old new result
 flushed text old taken new (Ok _) whole same = same ∙ whole
@@ -45,11 +45,11 @@ cause_after before between now result same cause = subst (λ (n : ℕ). HasCause
 regroup : (a b c d : List ℕ) → (a ++ (b ++ c)) ++ d ≡ (a ++ b) ++ (c ++ d)
 regroup a b c d = simp append_assoc
 
--- A front of a line was taken behind the lines before it.
-pub front_later : (name : List ℕ) (value : ℕ → ℤ) (id count : ℕ) (line : List ℕ) (old between now : Option (List ℕ)) → id < count
+-- The sink took a prefix of a line after the previous lines.
+pub prefix_later : (name : List ℕ) (value : ℕ → ℤ) (id count : ℕ) (line : List ℕ) (old between now : Option (List ℕ)) → id < count
     → between ≡ append_known old (field_text name value id) → line ≡ value_line name id (value id) → TakesPrefix between now line
     → TakesPrefix old now (field_text name value count)
-front_later name value id count line old between now below taken is f =
+prefix_later name value id count line old between now below taken is f =
     let before = field_text name value id in
     let after = flat_map (λ i. value_line name i (value i)) (range_with_len (id + 1) (count - (id + 1))) in
     let split : id + 1 + (count - (id + 1)) ≡ count = omega arith in
@@ -61,7 +61,7 @@ front_later name value id count line old between now below taken is f =
     f.output ∙ ap (λ (k : Option (List ℕ)). append_known k f.prefix) taken ∙ append_known-append old before f.prefix in
     record { prefix = before ++ f.prefix; rest = f.rest ++ after; parts = parts; output = joined }
 
--- A line more was taken.
+-- The sink took one more line.
 pub line_later : (name : List ℕ) (value : ℕ → ℤ) (id : ℕ) (line : List ℕ) (old between now : Option (List ℕ))
     → between ≡ append_known old (field_text name value id) → line ≡ value_line name id (value id) → now ≡ append_known between line
     → now ≡ append_known old (field_text name value (id + 1))

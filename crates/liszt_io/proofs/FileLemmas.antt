@@ -12,7 +12,7 @@ use Rattle.std.proofs.lemmas.Map.Text.{is_eq-slice_cmp}
 use Rattle.std.proofs.lemmas.Slice.Eq.{bytes_eq-Decides}
 use Rattle.liszt_io.specs.declared.held_file.HeldFile.{HeldFile}
 use Rattle.liszt_io.specs.Shelves.{file}
-use Rattle.liszt_io.specs.Held.{entry, files_of, no_file, name_at, bytes_at, IsFileAt}
+use Rattle.liszt_io.specs.FileLists.{entry, files_of, no_file, name_at, bytes_at, IsFileAt}
 
 file_is : (fs : List HeldFile) (name : List ℕ) → file (files_of fs) name ≡ find (slice_cmp nat_cmp) name (map entry fs)
 file_is fs name = get-from_entries nat_list_cmp_total (map entry fs) name
@@ -33,13 +33,13 @@ other_bytes : (xs ys : List ℕ) → xs ≢ ys → bytes_eq xs ys ≡ false
 other_bytes xs ys h = is_false (bytes_eq xs ys) (λ e. h ((bytes_eq-Decides xs ys).0 e))
 
 -- a file that was read at its place
-pub named : (fs : List HeldFile) (i : ℕ) (f : HeldFile) → i < length fs → f ≡ get_or fs i f → f ≡ slice_index_or fs i no_file
-named fs i f inside is = is ∙ get_or_default fs i f no_file inside
+pub file_at_index : (fs : List HeldFile) (i : ℕ) (f : HeldFile) → i < length fs → f ≡ get_or fs i f → f ≡ slice_index_or fs i no_file
+file_at_index fs i f inside is = is ∙ get_or_default fs i f no_file inside
 
-pub test_is : (fs : List HeldFile) (i : ℕ) (f : HeldFile) (bytes name : List ℕ) (test : Bool) → i < length fs → f ≡ get_or fs i f → bytes ≡ f.name → test ≡ bytes_eq bytes name
+pub name_test : (fs : List HeldFile) (i : ℕ) (f : HeldFile) (bytes name : List ℕ) (test : Bool) → i < length fs → f ≡ get_or fs i f → bytes ≡ f.name → test ≡ bytes_eq bytes name
     → bytes_eq (name_at fs i) name ≡ test
-test_is fs i f bytes name test inside is bytes_are e =
-    let bytes_is : bytes ≡ name_at fs i = bytes_are ∙ ap (λ (g : HeldFile). g.name) (named fs i f inside is) in
+name_test fs i f bytes name test inside is bytes_are e =
+    let bytes_is : bytes ≡ name_at fs i = bytes_are ∙ ap (λ (g : HeldFile). g.name) (file_at_index fs i f inside is) in
     ap (λ (b : List ℕ). bytes_eq b name) (sym bytes_is) ∙ sym e
 
 pub same_name : (xs ys : List ℕ) → bytes_eq xs ys ≡ true → xs ≡ ys
@@ -48,28 +48,28 @@ same_name xs ys e = (bytes_eq-Decides xs ys).0 e
 pub other_name : (xs ys : List ℕ) → bytes_eq xs ys ≡ false → xs ≢ ys
 other_name xs ys e same = let t : bytes_eq xs ys ≡ true = (bytes_eq-Decides xs ys).1 same in cc
 
-parts : (fs : List HeldFile) (i : ℕ) → i < length fs → drop i fs ≡ slice_index_or fs i no_file ∷ drop (i + 1) fs
-parts fs i h = rw add-one (drop-cons fs i no_file h)
+drop_at : (fs : List HeldFile) (i : ℕ) → i < length fs → drop i fs ≡ slice_index_or fs i no_file ∷ drop (i + 1) fs
+drop_at fs i h = rw add-one (drop-cons fs i no_file h)
 
 -- no file before place i has the name, and the file there has it
-pub found_at : (fs : List HeldFile) (i : ℕ) (name : List ℕ) → i < length fs → name_at fs i ≡ name → file (files_of (drop i fs)) name ≡ file (files_of fs) name → IsFileAt fs i
-found_at fs i name inside same before =
+pub file_at_match : (fs : List HeldFile) (i : ℕ) (name : List ℕ) → i < length fs → name_at fs i ≡ name → file (files_of (drop i fs)) name ≡ file (files_of fs) name → IsFileAt fs i
+file_at_match fs i name inside same before =
     let first = first_or_rest (slice_index_or fs i no_file) (drop (i + 1) fs) name in
     let is : bytes_eq name (name_at fs i) ≡ true = rw same (same_bytes name) in
     let here : file (files_of (drop i fs)) name ≡ Some (bytes_at fs i) =
-    ap (λ (l : List HeldFile). file (files_of l) name) (parts fs i inside) ∙ first ∙ rw is refl in
+    ap (λ (l : List HeldFile). file (files_of l) name) (drop_at fs i inside) ∙ first ∙ rw is refl in
     record { inside = inside; contents = rw same (sym before ∙ here) }
 
 -- the file at place i hasn't the name
-pub not_at : (fs : List HeldFile) (i : ℕ) (name : List ℕ) → i < length fs → name_at fs i ≢ name → file (files_of (drop i fs)) name ≡ file (files_of fs) name
+pub file_after_mismatch : (fs : List HeldFile) (i : ℕ) (name : List ℕ) → i < length fs → name_at fs i ≢ name → file (files_of (drop i fs)) name ≡ file (files_of fs) name
     → file (files_of (drop (i + 1) fs)) name ≡ file (files_of fs) name
-not_at fs i name inside other before =
+file_after_mismatch fs i name inside other before =
     let first = first_or_rest (slice_index_or fs i no_file) (drop (i + 1) fs) name in
     let is : bytes_eq name (name_at fs i) ≡ false = other_bytes name (name_at fs i) (λ e. other (sym e)) in
     let here : file (files_of (drop i fs)) name ≡ file (files_of (drop (i + 1) fs)) name =
-    ap (λ (l : List HeldFile). file (files_of l) name) (parts fs i inside) ∙ first ∙ rw is refl in
+    ap (λ (l : List HeldFile). file (files_of l) name) (drop_at fs i inside) ∙ first ∙ rw is refl in
     sym here ∙ before
 
 -- all places were passed
-pub not_held : (fs : List HeldFile) (i : ℕ) (name : List ℕ) → length fs ≤ i → file (files_of (drop i fs)) name ≡ file (files_of fs) name → file (files_of fs) name ≡ None
-not_held fs i name past before = sym before ∙ ap (λ (l : List HeldFile). file (files_of l) name) (drop_of_length-le fs past) ∙ file_is [] name
+pub no_file_of_name : (fs : List HeldFile) (i : ℕ) (name : List ℕ) → length fs ≤ i → file (files_of (drop i fs)) name ≡ file (files_of fs) name → file (files_of fs) name ≡ None
+no_file_of_name fs i name past before = sym before ∙ ap (λ (l : List HeldFile). file (files_of l) name) (drop_of_length-le fs past) ∙ file_is [] name

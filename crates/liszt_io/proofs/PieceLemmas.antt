@@ -1,4 +1,4 @@
--- Lists that grow by pieces, and values that are known to be there.
+-- Lists that grow by pieces, and values that are known.
 use Rattle.std.proofs.Common.{◌≡◌, ℕ, ◌+◌, ◌-◌, ◌<◌, ◌≤◌, List, [], ◌++◌, length, take, drop, Option, Some, None, IsSome, Ok, inr, refl, sym, ap, subst, ◌∙◌, append_assoc, arith, length-append, length-drop, length-take}
 use Rattle.std.proofs.Math.Seq.{take-add, take-length}
 use Rattle.std.proofs.lemmas.Slice.{between_to_end}
@@ -15,12 +15,12 @@ pub append_known-append : (known : Option (List ℕ)) (xs ys : List ℕ) → app
 append_known-append None xs ys = refl
 append_known-append (Some zs) xs ys = ap Some (append_assoc zs xs ys)
 
--- the value that is there
-pub held_some : {A : Type 0} (o : Option A) → IsSome o → (x : A) × (o ≡ Some x)
-held_some None h = cc
-held_some (Some x) h = (x, refl)
+-- the known value
+pub known_value : {A : Type 0} (o : Option A) → IsSome o → (x : A) × (o ≡ Some x)
+known_value None h = cc
+known_value (Some x) h = (x, refl)
 
--- a front of a file was read, and nothing failed since
+-- a prefix of a file was read, and nothing failed since
 pub record IsReading (files : Files) (name bytes : List ℕ) (cursor : Option Cursor) (before now : Tally) : Type 0 where
   pub all : List ℕ
   pub contents : file files name ≡ Some all
@@ -29,11 +29,11 @@ pub record IsReading (files : Files) (name bytes : List ℕ) (cursor : Option Cu
   pub prefix : bytes ≡ take (length bytes) all
   pub tally : now ≡ before
 
--- the rest of the bytes was offered, and `count` of them were taken
-pub taken_more : (known now after : Option (List ℕ)) (bytes : List ℕ) (done count : ℕ) → done ≤ length bytes → now ≡ append_known known (take done bytes)
+-- the sink took `count` bytes of the rest
+pub output_after_piece : (known now after : Option (List ℕ)) (bytes : List ℕ) (done count : ℕ) → done ≤ length bytes → now ≡ append_known known (take done bytes)
     → TakesPiece now after (take (length bytes - done) (drop done bytes)) count
     → (done + count ≤ length bytes) × (after ≡ append_known known (take (done + count) bytes))
-taken_more known now after bytes done count within now_is t =
+output_after_piece known now after bytes done count within now_is t =
     let piece_is : take (length bytes - done) (drop done bytes) ≡ drop done bytes = between_to_end bytes done (length bytes) (omega arith) in
     let inside : count ≤ length (drop done bytes) = subst (λ (p : List ℕ). count ≤ length p) piece_is t.inside in
     let taken : after ≡ append_known now (take count (drop done bytes)) = subst (λ (p : List ℕ). after ≡ append_known now (take count p)) piece_is t.output in
@@ -44,16 +44,16 @@ taken_more known now after bytes done count within now_is t =
 pub reading_begins : (files : Files) (name bytes : List ℕ) (cursor : Option Cursor) (before now : Tally)
     → bytes ≡ [] → Opens files name (Ok tt) cursor before now → IsReading files name bytes cursor before now
 reading_begins files name bytes cursor before now empty h =
-    let known = held_some (file files name) h.0 in
+    let known = known_value (file files name) h.0 in
     let at : cursor ≡ Some (name, length bytes) = rw empty h.1 in
     let none : length bytes ≡ 0 = ap length empty in
     let prefix : bytes ≡ take (length bytes) known.0 = rw none empty in
     record { all = known.0; contents = known.1; at = at; inside = omega arith; prefix = prefix; tally = h.2 }
 
-pub reading_goes_on : (files : Files) (name bytes buffer : List ℕ) (count : ℕ) (cursor cursor' : Option Cursor) (before now now' : Tally)
+pub reading_continues : (files : Files) (name bytes buffer : List ℕ) (count : ℕ) (cursor cursor' : Option Cursor) (before now now' : Tally)
     → (r : IsReading files name bytes cursor before now) → Reads name r.all (length bytes) (Ok count) buffer cursor' now now'
     → IsReading files name (bytes ++ take count buffer) cursor' before now'
-reading_goes_on files name bytes buffer count cursor cursor' before now now' r h =
+reading_continues files name bytes buffer count cursor cursor' before now now' r h =
     let all = r.all in
     let inside : length bytes + count ≤ length all = h.0.inside in
     let piece : take count buffer ≡ take count (drop (length bytes) all) = h.0.piece in

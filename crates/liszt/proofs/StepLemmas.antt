@@ -1,4 +1,4 @@
--- The steps by which the inputs are taken in, joined.
+-- The steps that read the inputs, joined.
 use Rattle.std.proofs.Common.{◌≡◌, ℕ, ◌≤◌, inl, inr, List, length, Option, Some, None, MatchOption, MatchResult, Result, Ok, Err, refl, sym, ap, subst, ◌∙◌, arith, ℤ, pos, ◌+ℤ◌, ◌≤ℤ◌, ◌⊎◌}
 use Rattle.std.specs.Prelude.{IfOk, FitsSigned}
 use Rattle.std.proofs.lemmas.Int.{ints, to_z-of_z}
@@ -27,12 +27,12 @@ use Rattle.liszt.specs.Expected.{Outcome, refusal, Within, ProgramResult, NodeRe
 use Rattle.liszt.specs.Answers.{IsLost, Answers, Wrote, HasCauses, HasShelfCause}
 use Rattle.liszt.specs.Internal.Steps.{HasStepCause, StepGives, MakesJob, Prepares, job_text}
 
--- From the bytes of an input to what they come to
+-- From the bytes of an input to their result
 
 err_is : {A : Type 0} (x y : Ended) → ◌≡◌ {A = Result A Ended} (Err x) (Err y) → x ≡ y
 err_is x y e = cc
 
--- a refusal of the bytes alone is one of whatever they should come to
+-- a refusal of the bytes alone is a refusal of every result
 pub step_refused : {A B : Type 0} (files : Files) (input : Input) (name : List ℕ) (HasResult : List ℕ → Result A Ended → Type 0) (Itself : List ℕ → Result B Ended → Type 0)
     (before now : Tally) (ended : Ended) → ((bytes : List ℕ) (e : Ended) → Itself bytes (Err e) → ⊥)
     → StepGives files input name Itself before now (Err ended) → StepGives files input name HasResult before now (Err ended)
@@ -78,21 +78,21 @@ step_failed {A} files input name HasResult Itself before now seen of_fault OutOf
 -- From the steps to the command
 
 -- an input is refused
-taken_refused : {A : Type 0} (files : Files) (input : Input) (name : List ℕ) (HasResult : List ℕ → Result A Ended → Type 0) (Continues : A → Outcome → Type 0) (before now : Tally) (ended : Ended)
+input_refused : {A : Type 0} (files : Files) (input : Input) (name : List ℕ) (HasResult : List ℕ → Result A Ended → Type 0) (Continues : A → Outcome → Type 0) (before now : Tally) (ended : Ended)
     → StepGives files input name HasResult before now (Err ended) → (ended ≡ NoMemory) ⊎ TakesIn (IsLost files before now) files input name HasResult Continues (refusal ended)
-taken_refused files input name HasResult Continues before now ended (inl memory) = inl memory
-taken_refused files input name HasResult Continues before now ended (inr (inl lost)) = inr (inl (lost.1, ap refusal lost.0))
-taken_refused files input name HasResult Continues before now ended (inr (inr h)) = inr (inr (h.0, Err ended, h.1, h.2, refl))
+input_refused files input name HasResult Continues before now ended (inl memory) = inl memory
+input_refused files input name HasResult Continues before now ended (inr (inl lost)) = inr (inl (lost.1, ap refusal lost.0))
+input_refused files input name HasResult Continues before now ended (inr (inr h)) = inr (inr (h.0, Err ended, h.1, h.2, refl))
 
--- the input is in its form, and what follows comes to the outcome
-taken_goes_on : {A : Type 0} (Lost : List ℕ → Type 0) (files : Files) (input : Input) (name : List ℕ) (HasResult : List ℕ → Result A Ended → Type 0) (Continues : A → Outcome → Type 0) (before now : Tally) (value : A) (outcome : Outcome)
+-- the input has a value, with which the command continues to the outcome
+input_continues : {A : Type 0} (Lost : List ℕ → Type 0) (files : Files) (input : Input) (name : List ℕ) (HasResult : List ℕ → Result A Ended → Type 0) (Continues : A → Outcome → Type 0) (before now : Tally) (value : A) (outcome : Outcome)
     → StepGives files input name HasResult before now (Ok value) → Continues value outcome → TakesIn Lost files input name HasResult Continues outcome
-taken_goes_on Lost files input name HasResult Continues before now value outcome h rest = inr (h.0, Ok value, h.1, h.2, rest)
+input_continues Lost files input name HasResult Continues before now value outcome h rest = inr (h.0, Ok value, h.1, h.2, rest)
 
-refused_goes_on : (Comes Comes' : Outcome → Type 0) (ended : Ended) → ((outcome : Outcome) → Comes outcome → Comes' outcome)
+refusal_continues : (Comes Comes' : Outcome → Type 0) (ended : Ended) → ((outcome : Outcome) → Comes outcome → Comes' outcome)
     → (ended ≡ NoMemory) ⊎ Comes (refusal ended) → (ended ≡ NoMemory) ⊎ Comes' (refusal ended)
-refused_goes_on Comes Comes' ended more (inl memory) = inl memory
-refused_goes_on Comes Comes' ended more (inr h) = inr (more (refusal ended) h)
+refusal_continues Comes Comes' ended more (inl memory) = inl memory
+refusal_continues Comes Comes' ended more (inr h) = inr (more (refusal ended) h)
 
 named : (Lost : List ℕ → Type 0) (words : List (List ℕ)) (files : Files) (c : SeqCommand) (outcome : Outcome) → command_of words ≡ Some c → Seq Lost files c outcome → ResultsIn Lost words files outcome
 named Lost words files c outcome is h =
@@ -109,17 +109,17 @@ pub program_refused : (words : List (List ℕ)) (files : Files) (c : SeqCommand)
     → StepGives files Program c.program ProgramResult before now (Err ended) → Prepares words files before now (Err ended)
 program_refused words files c before now ended is first =
     let Lost : List ℕ → Type 0 = IsLost files before now in
-    refused_goes_on (Seq Lost files c) (ResultsIn Lost words files) ended (λ outcome. named Lost words files c outcome is)
-    (taken_refused files Program c.program ProgramResult (TakesPoints Lost files c) before now ended first)
+    refusal_continues (Seq Lost files c) (ResultsIn Lost words files) ended (λ outcome. named Lost words files c outcome is)
+    (input_refused files Program c.program ProgramResult (TakesPoints Lost files c) before now ended first)
 
 pub node_refused : (words : List (List ℕ)) (files : Files) (c : SeqCommand) (program : Main) (before t now : Tally) (ended : Ended) → command_of words ≡ Some c
     → StepGives files Program c.program ProgramResult before t (Ok program) → StepGives files Node c.node NodeResult t now (Err ended) → Prepares words files before now (Err ended)
 node_refused words files c program before t now ended is first second =
     let Lost : List ℕ → Type 0 = IsLost files before now in
     let second' = subst (λ (s : Tally). StepGives files Node c.node NodeResult s now (Err ended)) first.3 second in
-    refused_goes_on (TakesPoints Lost files c program) (ResultsIn Lost words files) ended
-    (λ outcome h. named Lost words files c outcome is (taken_goes_on Lost files Program c.program ProgramResult (TakesPoints Lost files c) before t program outcome first h))
-    (taken_refused files Node c.node NodeResult (TakesCells Lost files c program) before now ended second')
+    refusal_continues (TakesPoints Lost files c program) (ResultsIn Lost words files) ended
+    (λ outcome h. named Lost words files c outcome is (input_continues Lost files Program c.program ProgramResult (TakesPoints Lost files c) before t program outcome first h))
+    (input_refused files Node c.node NodeResult (TakesCells Lost files c program) before now ended second')
 
 pub ele_refused : (words : List (List ℕ)) (files : Files) (c : SeqCommand) (program : Main) (table : PointTable) (before t u now : Tally) (ended : Ended) → command_of words ≡ Some c
     → StepGives files Program c.program ProgramResult before t (Ok program) → StepGives files Node c.node NodeResult t u (Ok table)
@@ -127,11 +127,11 @@ pub ele_refused : (words : List (List ℕ)) (files : Files) (c : SeqCommand) (pr
 ele_refused words files c program table before t u now ended is first second third =
     let Lost : List ℕ → Type 0 = IsLost files before now in
     let third' = subst (λ (s : Tally). StepGives files Ele c.ele (EleResult table) s now (Err ended)) (second.3 ∙ first.3) third in
-    refused_goes_on (TakesCells Lost files c program table) (ResultsIn Lost words files) ended
+    refusal_continues (TakesCells Lost files c program table) (ResultsIn Lost words files) ended
     (λ outcome h. named Lost words files c outcome is
-    (taken_goes_on Lost files Program c.program ProgramResult (TakesPoints Lost files c) before t program outcome first
-    (taken_goes_on Lost files Node c.node NodeResult (TakesCells Lost files c program) t u table outcome second h)))
-    (taken_refused files Ele c.ele (EleResult table) (Finishes program) before now ended third')
+    (input_continues Lost files Program c.program ProgramResult (TakesPoints Lost files c) before t program outcome first
+    (input_continues Lost files Node c.node NodeResult (TakesCells Lost files c program) t u table outcome second h)))
+    (input_refused files Ele c.ele (EleResult table) (Finishes program) before now ended third')
 
 -- the lines of a job are the text of its program on its mesh
 pub job_text_is : (simple : Simple) (mesh : MeshLists) (name : List ℕ) (value : ℤ) → name ≡ simple.name → value ≡ simple.first +ℤ simple.added
@@ -139,44 +139,44 @@ pub job_text_is : (simple : Simple) (mesh : MeshLists) (name : List ℕ) (value 
 job_text_is simple mesh name value e f =
     ap (λ (n : List ℕ). field_text n (λ _. value) (length mesh.cells)) e ∙ ap (λ (v : ℤ). field_text simple.name (λ _. v) (length mesh.cells)) f
 
--- what a job that was made, or was not, finishes with
-finished : (tree : Main) (mesh : MeshLists) (job : Job) → MakesJob tree mesh (Ok job)
+-- the outcome of a job, or of the refusal to make one
+job_finishes : (tree : Main) (mesh : MeshLists) (job : Job) → MakesJob tree mesh (Ok job)
     → Finishes tree mesh (record { ended = Done; text = job_text job })
-finished tree mesh job made = inl (made.0, made.1, ap done_with made.2)
+job_finishes tree mesh job made = inl (made.0, made.1, ap done_with made.2)
 
-unfinished : (Comes : Outcome → Type 0) (tree : Main) (mesh : MeshLists) (ended : Ended) → ((outcome : Outcome) → Finishes tree mesh outcome → Comes outcome)
+refusal_finishes : (Comes : Outcome → Type 0) (tree : Main) (mesh : MeshLists) (ended : Ended) → ((outcome : Outcome) → Finishes tree mesh outcome → Comes outcome)
     → MakesJob tree mesh (Err ended) → (ended ≡ NoMemory) ⊎ Comes (refusal ended)
-unfinished Comes tree mesh ended comes (inl memory) = inl memory
-unfinished Comes tree mesh ended comes (inr later) = inr (comes (refusal ended) (inr (later.1, ap refusal later.0)))
+refusal_finishes Comes tree mesh ended comes (inl memory) = inl memory
+refusal_finishes Comes tree mesh ended comes (inr later) = inr (comes (refusal ended) (inr (later.1, ap refusal later.0)))
 
-pub all_taken : (words : List (List ℕ)) (files : Files) (c : SeqCommand) (program : Main) (table : PointTable) (mesh : MeshLists) (made : Result Job Ended) (before t u now : Tally) → command_of words ≡ Some c
+pub all_inputs : (words : List (List ℕ)) (files : Files) (c : SeqCommand) (program : Main) (table : PointTable) (mesh : MeshLists) (made : Result Job Ended) (before t u now : Tally) → command_of words ≡ Some c
     → StepGives files Program c.program ProgramResult before t (Ok program) → StepGives files Node c.node NodeResult t u (Ok table)
     → StepGives files Ele c.ele (EleResult table) u now (Ok mesh) → MakesJob program mesh made → Prepares words files before now made
-all_taken words files c program table mesh made before t u now is first second third makes = go made makes
+all_inputs words files c program table mesh made before t u now is first second third makes = go made makes
   where
     comes : (outcome : Outcome) → Finishes program mesh outcome → ResultsIn (IsLost files before now) words files outcome
     comes outcome finishes =
         let Lost : List ℕ → Type 0 = IsLost files before now in
         named Lost words files c outcome is
-        (taken_goes_on Lost files Program c.program ProgramResult (TakesPoints Lost files c) before t program outcome first
-        (taken_goes_on Lost files Node c.node NodeResult (TakesCells Lost files c program) t u table outcome second
-        (taken_goes_on Lost files Ele c.ele (EleResult table) (Finishes program) u now mesh outcome third finishes)))
+        (input_continues Lost files Program c.program ProgramResult (TakesPoints Lost files c) before t program outcome first
+        (input_continues Lost files Node c.node NodeResult (TakesCells Lost files c program) t u table outcome second
+        (input_continues Lost files Ele c.ele (EleResult table) (Finishes program) u now mesh outcome third finishes)))
 
     go : (made : Result Job Ended) → MakesJob program mesh made → Prepares words files before now made
-    go (Ok job) makes = comes (record { ended = Done; text = job_text job }) (finished program mesh job makes)
-    go (Err ended) makes = unfinished (ResultsIn (IsLost files before now) words files) program mesh ended comes makes
+    go (Ok job) makes = comes (record { ended = Done; text = job_text job }) (job_finishes program mesh job makes)
+    go (Err ended) makes = refusal_finishes (ResultsIn (IsLost files before now) words files) program mesh ended comes makes
 
--- what the making of a job leaves of the other clauses
-pub made_cause : (shelf shelf' : ℕ) (tree : Main) (mesh : MeshLists) (made : Result Job Ended) → MakesJob tree mesh made → shelf' ≡ shelf
+-- the other clauses of a job
+pub job_cause : (shelf shelf' : ℕ) (tree : Main) (mesh : MeshLists) (made : Result Job Ended) → MakesJob tree mesh made → shelf' ≡ shelf
     → HasStepCause shelf shelf' made
-made_cause shelf shelf' tree mesh (Ok job) makes same = same
-made_cause shelf shelf' tree mesh (Err ended) (inl memory) same = subst (λ (e : Ended). HasStepCause {A = Job} shelf shelf' (Err e)) (sym memory) same
-made_cause shelf shelf' tree mesh (Err ended) (inr later) same = subst (λ (e : Ended). HasStepCause {A = Job} shelf shelf' (Err e)) (sym later.0) same
+job_cause shelf shelf' tree mesh (Ok job) makes same = same
+job_cause shelf shelf' tree mesh (Err ended) (inl memory) same = subst (λ (e : Ended). HasStepCause {A = Job} shelf shelf' (Err e)) (sym memory) same
+job_cause shelf shelf' tree mesh (Err ended) (inr later) same = subst (λ (e : Ended). HasStepCause {A = Job} shelf shelf' (Err e)) (sym later.0) same
 
-pub made_no_usage : (tree : Main) (mesh : MeshLists) (made : Result Job Ended) → MakesJob tree mesh made → made ≡ Err Usage → ⊥
-made_no_usage tree mesh (Ok job) makes is = absurd cc
-made_no_usage tree mesh (Err ended) (inl memory) is = absurd cc
-made_no_usage tree mesh (Err ended) (inr later) is = let l = later.0 in absurd cc
+pub job_no_usage : (tree : Main) (mesh : MeshLists) (made : Result Job Ended) → MakesJob tree mesh made → made ≡ Err Usage → ⊥
+job_no_usage tree mesh (Ok job) makes is = absurd cc
+job_no_usage tree mesh (Err ended) (inl memory) is = absurd cc
+job_no_usage tree mesh (Err ended) (inr later) is = let l = later.0 in absurd cc
 
 pub made_job : (tree : Main) (mesh : MeshLists) (made : Result Job Ended) → MakesJob tree mesh made
     → IfOk made (λ job. (simple : Simple) × (m : MeshLists) × (job_text job ≡ done_text simple m))
@@ -188,7 +188,7 @@ pub lost_at : (files : Files) (name : List ℕ) (before now : Tally) → FailsAt
 lost_at files name before now (inl stray) = inl stray.0
 lost_at files name before now (inr other) = inr (other.1.others, other.1.last)
 
--- a refusal that isn't Usage
+-- a refusal that is not Usage
 pub no_usage : {A B : Type 0} (ended : Ended) (result : Result A Ended) → result ≡ Err ended → (◌≡◌ {A = Result B Ended} (Err ended) (Err Usage) → ⊥) → result ≡ Err Usage → ⊥
 no_usage ended result is other usage = let same : ended ≡ Usage = cc in other (ap Err same)
 
@@ -215,8 +215,8 @@ value_fits first added b c =
 pub job_answers : (words : List (List ℕ)) (files : Files) (before now : Tally) (shelf shelf' : ℕ) (old new : Option (List ℕ)) (job : Job) (written : Result Unit Unwritten) (ended : Ended)
     → Prepares words files before now (Ok job) → shelf' ≡ shelf → Writes (job_text job) old new written → MatchResult written (λ _. ended ≡ Done) (λ _. ended ≡ WriteFault)
     → Answers words files before now shelf shelf' old new ended
-job_answers words files before now shelf shelf' old new job (Ok _) ended comes same taken is =
-    subst (Answers words files before now shelf shelf' old new) (sym is) (job_text job, comes, taken)
+job_answers words files before now shelf shelf' old new job (Ok _) ended comes same output is =
+    subst (Answers words files before now shelf shelf' old new) (sym is) (job_text job, comes, output)
 job_answers words files before now shelf shelf' old new job (Err _) ended comes same prefix is =
     subst (Answers words files before now shelf shelf' old new) (sym is) (record { ended = Done; text = job_text job }, inl comes, prefix, same)
 
@@ -224,23 +224,23 @@ job_answers words files before now shelf shelf' old new job (Err _) ended comes 
 refused : (words : List (List ℕ)) (files : Files) (before now : Tally) (shelf shelf' : ℕ) (old new : Option (List ℕ)) (ended : Ended)
     → (ended ≡ NoMemory) ⊎ ResultsIn (IsLost files before now) words files (refusal ended) → HasStepCause {A = Job} shelf shelf' (Err ended)
     → new ≡ append_known old (ending_text ended) → Answers words files before now shelf shelf' old new ended
-refused words files before now shelf shelf' old new NoMemory comes can output = taken
+refused words files before now shelf shelf' old new NoMemory comes can output = output
 refused words files before now shelf shelf' old new Done comes can output = absurd can
 refused words files before now shelf shelf' old new WriteFault comes can output = absurd can
 refused words files before now shelf shelf' old new Usage (inl memory) can output = cc
-refused words files before now shelf shelf' old new Usage (inr comes) can output = (ending_text Usage, comes, taken)
+refused words files before now shelf shelf' old new Usage (inr comes) can output = (ending_text Usage, comes, output)
 refused words files before now shelf shelf' old new Later (inl memory) can output = cc
-refused words files before now shelf shelf' old new Later (inr comes) can output = (ending_text Later, comes, taken)
+refused words files before now shelf shelf' old new Later (inr comes) can output = (ending_text Later, comes, output)
 refused words files before now shelf shelf' old new (OfProgram fault) (inl memory) can output = cc
 refused words files before now shelf shelf' old new (Mesh fault) (inl memory) can output = cc
-refused words files before now shelf shelf' old new (OfProgram fault) (inr comes) can output = (ending_text (OfProgram fault), comes, taken)
-refused words files before now shelf shelf' old new (Mesh fault) (inr comes) can output = (ending_text (Mesh fault), comes, taken)
+refused words files before now shelf shelf' old new (OfProgram fault) (inr comes) can output = (ending_text (OfProgram fault), comes, output)
+refused words files before now shelf shelf' old new (Mesh fault) (inr comes) can output = (ending_text (Mesh fault), comes, output)
 refused words files before now shelf shelf' old new (Limit fault) (inl memory) can output = cc
-refused words files before now shelf shelf' old new (Limit fault) (inr comes) can output = (ending_text (Limit fault), comes, taken)
+refused words files before now shelf shelf' old new (Limit fault) (inr comes) can output = (ending_text (Limit fault), comes, output)
 refused words files before now shelf shelf' old new (ReadFault x) (inl memory) can output = cc
-refused words files before now shelf shelf' old new (ReadFault x) (inr comes) can output = (ending_text (ReadFault x), comes, taken)
+refused words files before now shelf shelf' old new (ReadFault x) (inr comes) can output = (ending_text (ReadFault x), comes, output)
 
--- the count behind a refusal
+-- the count after a refusal
 shelf_cause : (shelf shelf' : ℕ) (ended : Ended) → HasStepCause {A = Job} shelf shelf' (Err ended) → HasShelfCause shelf shelf' ended
 shelf_cause shelf shelf' (ReadFault x) h = h
 shelf_cause shelf shelf' Done h = absurd h
@@ -264,8 +264,8 @@ unwritten words files before now shelf shelf' old new ended (inr comes) cause pr
 pub refusal_answers : (words : List (List ℕ)) (files : Files) (before now : Tally) (shelf shelf' : ℕ) (old new : Option (List ℕ)) (known : Ended) (written : Result Unit Unwritten) (ended : Ended)
     → Prepares words files before now (Err known) → HasStepCause {A = Job} shelf shelf' (Err known) → Writes (ending_text known) old new written
     → MatchResult written (λ _. ended ≡ known) (λ _. ended ≡ WriteFault) → Answers words files before now shelf shelf' old new ended
-refusal_answers words files before now shelf shelf' old new known (Ok _) ended comes cause taken is =
-    subst (Answers words files before now shelf shelf' old new) (sym is) (refused words files before now shelf shelf' old new known comes cause taken)
+refusal_answers words files before now shelf shelf' old new known (Ok _) ended comes cause output is =
+    subst (Answers words files before now shelf shelf' old new) (sym is) (refused words files before now shelf shelf' old new known comes cause output)
 refusal_answers words files before now shelf shelf' old new known (Err _) ended comes cause prefix is =
     subst (Answers words files before now shelf shelf' old new) (sym is) (unwritten words files before now shelf shelf' old new known comes cause prefix)
 
@@ -284,25 +284,25 @@ text_of_refusal (Some c) ended usage = inl (ended, refl)
 pub wrote_job : (words : List (List ℕ)) (old new : Option (List ℕ)) (text : List ℕ) (program : Simple) (mesh : MeshLists) (written : Result Unit Unwritten) (ended : Ended)
     → (command_of words ≡ None → ⊥) → text ≡ done_text program mesh → Writes text old new written → MatchResult written (λ _. ended ≡ Done) (λ _. ended ≡ WriteFault)
     → Wrote words old new ended
-wrote_job words old new text program mesh (Ok _) ended some is taken ends = subst (Wrote words old new) (sym ends) (program, mesh, taken ∙ ap (append_known old) is)
+wrote_job words old new text program mesh (Ok _) ended some is output ends = subst (Wrote words old new) (sym ends) (program, mesh, output ∙ ap (append_known old) is)
 wrote_job words old new text program mesh (Err _) ended some is prefix ends =
     subst (Wrote words old new) (sym ends) (text, text_of_job (command_of words) program mesh text some is, prefix)
 
 wrote_line : (words : List (List ℕ)) (shelf shelf' : ℕ) (old new : Option (List ℕ)) (known : Ended) → HasStepCause {A = Job} shelf shelf' (Err known) → new ≡ append_known old (ending_text known) → Wrote words old new known
-wrote_line words shelf shelf' old new (ReadFault x) can output = taken
-wrote_line words shelf shelf' old new Later can output = taken
-wrote_line words shelf shelf' old new (OfProgram fault) can output = taken
-wrote_line words shelf shelf' old new (Mesh fault) can output = taken
-wrote_line words shelf shelf' old new (Limit fault) can output = taken
-wrote_line words shelf shelf' old new Usage can output = taken
-wrote_line words shelf shelf' old new NoMemory can output = taken
+wrote_line words shelf shelf' old new (ReadFault x) can output = output
+wrote_line words shelf shelf' old new Later can output = output
+wrote_line words shelf shelf' old new (OfProgram fault) can output = output
+wrote_line words shelf shelf' old new (Mesh fault) can output = output
+wrote_line words shelf shelf' old new (Limit fault) can output = output
+wrote_line words shelf shelf' old new Usage can output = output
+wrote_line words shelf shelf' old new NoMemory can output = output
 wrote_line words shelf shelf' old new Done can output = absurd can
 wrote_line words shelf shelf' old new WriteFault can output = absurd can
 
 pub wrote_refusal : (words : List (List ℕ)) (shelf shelf' : ℕ) (old new : Option (List ℕ)) (known : Ended) (written : Result Unit Unwritten) (ended : Ended)
     → (command_of words ≡ None → known ≡ Usage) → HasStepCause {A = Job} shelf shelf' (Err known) → Writes (ending_text known) old new written
     → MatchResult written (λ _. ended ≡ known) (λ _. ended ≡ WriteFault) → Wrote words old new ended
-wrote_refusal words shelf shelf' old new known (Ok _) ended usage can taken ends = subst (Wrote words old new) (sym ends) (wrote_line words shelf shelf' old new known can taken)
+wrote_refusal words shelf shelf' old new known (Ok _) ended usage can output ends = subst (Wrote words old new) (sym ends) (wrote_line words shelf shelf' old new known can output)
 wrote_refusal words shelf shelf' old new known (Err _) ended usage can prefix ends =
     subst (Wrote words old new) (sym ends) (ending_text known, text_of_refusal (command_of words) known usage, prefix)
 
