@@ -16,10 +16,8 @@ pub fn write_refusal<S: Sink>(out: &mut S, ended: &Ended) -> Result<(), WriteFau
     ensures writes { Writes (ending_text ended.now) (S.output out.old) (S.output out.new) result }
     ensures flushed { OnOk result (S.is_flushed out.new ≡ true) }
 {
-    match write_ending(out, ended) {
-        Ok(()) => flush(out),
-        Err(fault) => Err(fault),
-    }
+    write_ending(out, ended)?;
+    flush(out)
 }
 
 /// Writes the lines of a job, one for each cell, and flushes.
@@ -28,10 +26,8 @@ pub fn write_job<S: Sink>(out: &mut S, job: &Job) -> Result<(), WriteFault>
     ensures writes { Writes (job_text job.now) (S.output out.old) (S.output out.new) result }
     ensures flushed { OnOk result (S.is_flushed out.new ≡ true) }
 {
-    match write_values(out, job.name.as_slice(), job.value, job.mesh.cells().len()) {
-        Ok(()) => flush(out),
-        Err(fault) => Err(fault),
-    }
+    write_values(out, job.name.as_slice(), job.value, job.mesh.cells().len())?;
+    flush(out)
 }
 
 /// Flushes the sink.
