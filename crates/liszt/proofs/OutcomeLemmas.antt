@@ -32,7 +32,7 @@ use Rattle.liszt_report.specs.declared.ended.Ended.{Ended}
 use Rattle.liszt_report.specs.declared.ended.Ended.TheVariants.{Done, Usage, Later, Program as OfProgram, Mesh, Limit, ReadFault, WriteFault, NoMemory}
 use Rattle.command_words.specs.Commands.{command_of, SeqCommand}
 use Rattle.liszt.specs.Expected.{Outcome, refusal, Within, Follows, IsProgramFault, ProgramResult, NodeResult, EleResult, TakesIn, Finishes, TakesCells, TakesPoints, Seq, ResultsIn, Expected}
-use Rattle.liszt.specs.Answers.{IsLost, EndsWith, Answers, HasCauses, IsOutcome}
+use Rattle.liszt.specs.Answers.{outside, IsLost, EndsWith, Answers, HasCauses, IsOutcome}
 
 -- One outcome
 
@@ -174,24 +174,24 @@ expected_of : (words : List (List ℕ)) (files : Files) (before now : Tally) (ou
 expected_of words files before now outcome none p =
     command_weakened (IsLost files before now) (λ n. file files n ≡ None) files (command_of words) outcome (λ n. lost_without_file files before now n none) p
 
-ending_is_outcome : (words : List (List ℕ)) (files : Files) (before now : Tally) (old new : Option (List ℕ)) (ended : Ended) (outcome : Outcome) → (Rose before.others now.others → ⊥)
-    → EndsWith words files before now old new ended → Expected words files outcome → IsOutcome outcome old new ended
-ending_is_outcome words files before now old new ended outcome none e x =
+ending_is_outcome : (words : List (List ℕ)) (files : Files) (before now : Tally) (shelf shelf' : ℕ) (old new : Option (List ℕ)) (ended : Ended) (outcome : Outcome) → (Rose before.others now.others → ⊥)
+    → EndsWith words files (outside before shelf old) (outside now shelf' new) ended → Expected words files outcome → IsOutcome outcome old new ended
+ending_is_outcome words files before now shelf shelf' old new ended outcome none e x =
     let own : Outcome = record { ended = ended; text = e.0 } in
     let same : own ≡ outcome = one_expected words files own outcome (expected_of words files before now own none e.1) x in
     inl (ap (λ (o : Outcome). o.ended) same, e.2 ∙ ap (λ (o : Outcome). append_known old o.text) same)
 
 -- The answer is the outcome, where only strays were counted.
 pub complete : (words : List (List ℕ)) (files : Files) (before now : Tally) (shelf shelf' sink sink' : ℕ) (old new : Option (List ℕ)) (ended : Ended) (outcome : Outcome)
-    → Answers words files before now shelf shelf' old new ended → HasCauses shelf shelf' sink sink' ended → Expected words files outcome
+    → Answers words files (outside before shelf old) (outside now shelf' new) ended → HasCauses shelf shelf' sink sink' ended → Expected words files outcome
     → (Rose before.others now.others → ⊥) → (Rose sink sink' → ⊥) → IsOutcome outcome old new ended
-complete words files before now shelf shelf' sink sink' old new Done outcome a c x none whole = ending_is_outcome words files before now old new Done outcome none a x
-complete words files before now shelf shelf' sink sink' old new Usage outcome a c x none whole = ending_is_outcome words files before now old new Usage outcome none a x
-complete words files before now shelf shelf' sink sink' old new Later outcome a c x none whole = ending_is_outcome words files before now old new Later outcome none a x
-complete words files before now shelf shelf' sink sink' old new (OfProgram f) outcome a c x none whole = ending_is_outcome words files before now old new (OfProgram f) outcome none a x
-complete words files before now shelf shelf' sink sink' old new (Mesh f) outcome a c x none whole = ending_is_outcome words files before now old new (Mesh f) outcome none a x
-complete words files before now shelf shelf' sink sink' old new (Limit f) outcome a c x none whole = ending_is_outcome words files before now old new (Limit f) outcome none a x
-complete words files before now shelf shelf' sink sink' old new (ReadFault i) outcome a c x none whole = ending_is_outcome words files before now old new (ReadFault i) outcome none a x
+complete words files before now shelf shelf' sink sink' old new Done outcome a c x none whole = ending_is_outcome words files before now shelf shelf' old new Done outcome none a x
+complete words files before now shelf shelf' sink sink' old new Usage outcome a c x none whole = ending_is_outcome words files before now shelf shelf' old new Usage outcome none a x
+complete words files before now shelf shelf' sink sink' old new Later outcome a c x none whole = ending_is_outcome words files before now shelf shelf' old new Later outcome none a x
+complete words files before now shelf shelf' sink sink' old new (OfProgram f) outcome a c x none whole = ending_is_outcome words files before now shelf shelf' old new (OfProgram f) outcome none a x
+complete words files before now shelf shelf' sink sink' old new (Mesh f) outcome a c x none whole = ending_is_outcome words files before now shelf shelf' old new (Mesh f) outcome none a x
+complete words files before now shelf shelf' sink sink' old new (Limit f) outcome a c x none whole = ending_is_outcome words files before now shelf shelf' old new (Limit f) outcome none a x
+complete words files before now shelf shelf' sink sink' old new (ReadFault i) outcome a c x none whole = ending_is_outcome words files before now shelf shelf' old new (ReadFault i) outcome none a x
 complete words files before now shelf shelf' sink sink' old new WriteFault outcome a c x none whole = absurd (whole c.1)
 complete words files before now shelf shelf' sink sink' old new NoMemory outcome a c x none whole = inr refl
 

@@ -24,7 +24,7 @@ use Rattle.liszt_base.specs.declared.answers.Refused.TheVariants.{Fault, NoMemor
 use Rattle.liszt_report.specs.Endings.{ending_text, ending_of, field_text, too_long}
 use Rattle.liszt.specs.Simple.{done_text}
 use Rattle.liszt.specs.Expected.{Outcome, refusal, Within, ProgramResult, NodeResult, EleResult, TakesIn, Finishes, TakesCells, TakesPoints, Seq, ResultsIn}
-use Rattle.liszt.specs.Answers.{IsLost, Answers, Wrote, HasCauses, HasShelfCause}
+use Rattle.liszt.specs.Answers.{outside, IsLost, Answers, Wrote, HasCauses, HasShelfCause}
 use Rattle.liszt.specs.Internal.Steps.{HasStepCause, StepGives, MakesJob, Prepares, job_text}
 
 -- From the bytes of an input to their result
@@ -214,16 +214,16 @@ value_fits first added b c =
 
 pub job_answers : (words : List (List ℕ)) (files : Files) (before now : Tally) (shelf shelf' : ℕ) (old new : Option (List ℕ)) (job : Job) (written : Result Unit Unwritten) (ended : Ended)
     → Prepares words files before now (Ok job) → shelf' ≡ shelf → Writes (job_text job) old new written → MatchResult written (λ _. ended ≡ Done) (λ _. ended ≡ WriteFault)
-    → Answers words files before now shelf shelf' old new ended
+    → Answers words files (outside before shelf old) (outside now shelf' new) ended
 job_answers words files before now shelf shelf' old new job (Ok _) ended comes same output is =
-    subst (Answers words files before now shelf shelf' old new) (sym is) (job_text job, comes, output)
+    subst (Answers words files (outside before shelf old) (outside now shelf' new)) (sym is) (job_text job, comes, output)
 job_answers words files before now shelf shelf' old new job (Err _) ended comes same prefix is =
-    subst (Answers words files before now shelf shelf' old new) (sym is) (record { ended = Done; text = job_text job }, inl comes, prefix, same)
+    subst (Answers words files (outside before shelf old) (outside now shelf' new)) (sym is) (record { ended = Done; text = job_text job }, inl comes, prefix, same)
 
 -- a refusal whose line was written is the answer
 refused : (words : List (List ℕ)) (files : Files) (before now : Tally) (shelf shelf' : ℕ) (old new : Option (List ℕ)) (ended : Ended)
     → (ended ≡ NoMemory) ⊎ ResultsIn (IsLost files before now) words files (refusal ended) → HasStepCause {A = Job} shelf shelf' (Err ended)
-    → new ≡ append_known old (ending_text ended) → Answers words files before now shelf shelf' old new ended
+    → new ≡ append_known old (ending_text ended) → Answers words files (outside before shelf old) (outside now shelf' new) ended
 refused words files before now shelf shelf' old new NoMemory comes can output = output
 refused words files before now shelf shelf' old new Done comes can output = absurd can
 refused words files before now shelf shelf' old new WriteFault comes can output = absurd can
@@ -255,7 +255,7 @@ shelf_cause shelf shelf' NoMemory h = h
 -- and one whose line was not is what was being written
 unwritten : (words : List (List ℕ)) (files : Files) (before now : Tally) (shelf shelf' : ℕ) (old new : Option (List ℕ)) (ended : Ended)
     → (ended ≡ NoMemory) ⊎ ResultsIn (IsLost files before now) words files (refusal ended) → HasStepCause {A = Job} shelf shelf' (Err ended)
-    → TakesPrefix old new (ending_text ended) → Answers words files before now shelf shelf' old new WriteFault
+    → TakesPrefix old new (ending_text ended) → Answers words files (outside before shelf old) (outside now shelf' new) WriteFault
 unwritten words files before now shelf shelf' old new ended (inl memory) cause prefix =
     (refusal ended, inr (ap refusal memory), prefix, shelf_cause shelf shelf' ended cause)
 unwritten words files before now shelf shelf' old new ended (inr comes) cause prefix =
@@ -263,11 +263,11 @@ unwritten words files before now shelf shelf' old new ended (inr comes) cause pr
 
 pub refusal_answers : (words : List (List ℕ)) (files : Files) (before now : Tally) (shelf shelf' : ℕ) (old new : Option (List ℕ)) (known : Ended) (written : Result Unit Unwritten) (ended : Ended)
     → Prepares words files before now (Err known) → HasStepCause {A = Job} shelf shelf' (Err known) → Writes (ending_text known) old new written
-    → MatchResult written (λ _. ended ≡ known) (λ _. ended ≡ WriteFault) → Answers words files before now shelf shelf' old new ended
+    → MatchResult written (λ _. ended ≡ known) (λ _. ended ≡ WriteFault) → Answers words files (outside before shelf old) (outside now shelf' new) ended
 refusal_answers words files before now shelf shelf' old new known (Ok _) ended comes cause output is =
-    subst (Answers words files before now shelf shelf' old new) (sym is) (refused words files before now shelf shelf' old new known comes cause output)
+    subst (Answers words files (outside before shelf old) (outside now shelf' new)) (sym is) (refused words files before now shelf shelf' old new known comes cause output)
 refusal_answers words files before now shelf shelf' old new known (Err _) ended comes cause prefix is =
-    subst (Answers words files before now shelf shelf' old new) (sym is) (unwritten words files before now shelf shelf' old new known comes cause prefix)
+    subst (Answers words files (outside before shelf old) (outside now shelf' new)) (sym is) (unwritten words files before now shelf shelf' old new known comes cause prefix)
 
 -- What was written, over whatever shelf
 
