@@ -26,7 +26,7 @@ use Rattle.liszt_tree.specs.declared.tree.Sign.{Sign}
 use Rattle.liszt_tree.specs.declared.tree.Sign.TheVariants.{Or, And, Plus, Minus, Times, Over, Rest}
 use Rattle.liszt_tree.specs.Tree.{Expression, Links, Statement, Body}
 use Rattle.mesh_topology.specs.Elements.{corner_lists, count}
-use Rattle.mesh_topology.proofs.Near.{vertex_count}
+use Rattle.mesh_topology.proofs.NearLemmas.{vertex_count}
 use Rattle.topo_operators.specs.Operands.{IsElement, IsOf, CanVisit}
 use Rattle.topo_operators.specs.Operators.{head, tail, inside, outside, flip, valid, same, towards, members, unflipped, turned, points_to, tail_of, head_of, inside_of, outside_of}
 use Rattle.topo_operators.proofs.Results.{given, end_of, side_of, members_of}

@@ -14,8 +14,8 @@ use Rattle.liszt_base.specs.declared.elements.Kind.{Kind}
 use Rattle.liszt_tree.specs.declared.tree.How.{How}
 use Rattle.liszt_tree.specs.Tree.{Expression, MainItem, MainIf, Main}
 use Rattle.mesh_topology.specs.Elements.{corner_lists, count, numbers}
-use Rattle.mesh_topology.proofs.Sets.{Member}
-use Rattle.mesh_topology.proofs.Near.{range_below}
+use Rattle.mesh_topology.proofs.MemberLemmas.{Member}
+use Rattle.mesh_topology.proofs.NearLemmas.{range_below}
 use Rattle.phase_types.specs.Names.{Names, Named, FieldName, ScalarName, LocalName, ElementName, named, Part, FieldPart, ScalarPart, ScopePart, field_part, scalar_part, fields_in, scalars_in, Comprehension, Here, start, GoesOn, next_field, next_scalar, next_comprehension, next_scope, with_field as field_here, with_scalar as scalar_here, comprehension_at, into_block, out_of_block, is_block, behind_item, behind_main, built_ins}
 use Rattle.phase_types.specs.Types.{NumberType, TruthType, HasType}
 use Rattle.phase_types.specs.Typed.{ComprehensionFits, ItemFits, FitsMainField, FitsMainVar, FitsMainAssign, FitsMainIf, FitsMainWhile, FitsMainFor, FitsPrint, MainFits, FitsNoItem, FitsItems, IsTyped}

@@ -8,12 +8,12 @@ use Rattle.liszt_base.specs.MeshLists.{MeshLists}
 use Rattle.liszt_base.specs.declared.elements.Elem.{Elem}
 use Rattle.liszt_base.specs.declared.elements.Kind.TheVariants.{Edge, Face}
 use Rattle.liszt_base.specs.declared.elements.SetName.TheVariants.{EdgesCcw}
-use Rattle.mesh_topology.specs.Elements.{corner_lists, count, corners, steps, begun_at, face_cycle}
-use Rattle.mesh_topology.proofs.Sets.{Member, included}
-use Rattle.mesh_topology.proofs.Ranked.{found_again}
-use Rattle.mesh_topology.proofs.Sides.{face_is}
-use Rattle.mesh_topology.proofs.Cycles.{same_by, cycle_of_face}
-use Rattle.mesh_topology.proofs.FaceEdges.{edge_of_face, GoesThrough, all_different, through, both_through}
+use Rattle.mesh_topology.specs.Elements.{corner_lists, count, corners, steps, rotation_from, face_cycle}
+use Rattle.mesh_topology.proofs.MemberLemmas.{Member, included}
+use Rattle.mesh_topology.proofs.RankLemmas.{found_again}
+use Rattle.mesh_topology.proofs.SideLemmas.{face_is}
+use Rattle.mesh_topology.proofs.CycleLemmas.{same_by, cycle_of_face}
+use Rattle.mesh_topology.proofs.FaceEdgeLemmas.{edge_of_face, GoesThrough, all_different, through, both_through}
 use Rattle.topo_operators.specs.Operators.{turned, cycle_of, edge_along, members, GoesAlong}
 
 -- an edge by its id and its orientation
@@ -95,11 +95,11 @@ face_along mesh is face l = cycle_along mesh face.id l (cycle_of mesh face) (bot
 back_turned : (mesh : MeshLists) (face : ℕ) → face < count mesh Face → (a b : ℕ) (falls : Bool) → nat_lt b a ≡ falls → (a ≡ b → ⊥)
     → Member a (corners mesh Face face) → Member b (corners mesh Face face) → edge_along mesh (b, a) ≡ turned (edge_along mesh (a, b))
 back_turned mesh face l a b false way apart ma mb =
-    let rises : a < b = let least = ltb-false b a way in omega (arith, apart) in
-    let e = edge_of_face mesh face l a b rises ma mb in
+    let ascending : a < b = let least = ltb-false b a way in omega (arith, apart) in
+    let e = edge_of_face mesh face l a b ascending ma mb in
     let one : same_members (a ∷ b ∷ []) (corners mesh Edge e.id) ≡ true = rw e.is (pair_itself a b) in
     let two : same_members (b ∷ a ∷ []) (corners mesh Edge e.id) ≡ true = rw e.is (pair_swapped b a) in
-    sym (edge_is mesh b a e.id true (lt-ltb a b rises) e.below two) ∙ ap turned (edge_is mesh a b e.id false way e.below one)
+    sym (edge_is mesh b a e.id true (lt-ltb a b ascending) e.below two) ∙ ap turned (edge_is mesh a b e.id false way e.below one)
 back_turned mesh face l a b true way apart ma mb =
     let falls : b < a = ltb-true b a way in
     let e = edge_of_face mesh face l b a falls mb ma in
@@ -109,7 +109,7 @@ back_turned mesh face l a b true way apart ma mb =
     sym (edge_is mesh b a e.id false up e.below two) ∙ ap turned (edge_is mesh a b e.id true way e.below one)
 
 -- a cycle turned round goes through it the other way
-reversed_steps : (a b c : ℕ) → (a ≡ b → ⊥) → (c ≡ a → ⊥) → begun_at a (reverse (a ∷ b ∷ c ∷ [])) ≡ a ∷ c ∷ b ∷ []
+reversed_steps : (a b c : ℕ) → (a ≡ b → ⊥) → (c ≡ a → ⊥) → rotation_from a (reverse (a ∷ b ∷ c ∷ [])) ≡ a ∷ c ∷ b ∷ []
 reversed_steps a b c ab ca =
     let first : (c == a) ≡ false = false_from_ne_true (c == a) (λ h. ca (eqb-true c a h)) in
     let second : (b == a) ≡ false = false_from_ne_true (b == a) (λ h. ab (sym (eqb-true b a h))) in
@@ -118,14 +118,14 @@ reversed_steps a b c ab ca =
 -- the edges of a cycle turned round, and of the cycle, are the other's from the last to the first, each turned
 two_ways : (mesh : MeshLists) (face : ℕ) → face < count mesh Face → (cycle : List ℕ) (first : ℕ) → get_or cycle 0 0 ≡ first
     → GoesThrough (corners mesh Face face) cycle
-    → (edges mesh (begun_at first (reverse cycle)) ≡ map turned (reverse (edges mesh cycle)))
-    × (edges mesh cycle ≡ map turned (reverse (edges mesh (begun_at first (reverse cycle)))))
+    → (edges mesh (rotation_from first (reverse cycle)) ≡ map turned (reverse (edges mesh cycle)))
+    × (edges mesh cycle ≡ map turned (reverse (edges mesh (rotation_from first (reverse cycle)))))
 two_ways mesh face l (a ∷ b ∷ c ∷ []) first begins h =
     let t = corners mesh Face face in
     let f = face_is mesh face l in
     let d = all_different t a b c f.different f.three h in
     let m = three_inside t a b c h in
-    let turn : begun_at first (reverse (a ∷ b ∷ c ∷ [])) ≡ a ∷ c ∷ b ∷ [] = subst (λ v. begun_at v (reverse (a ∷ b ∷ c ∷ [])) ≡ a ∷ c ∷ b ∷ []) begins (reversed_steps a b c d.0 d.2) in
+    let turn : rotation_from first (reverse (a ∷ b ∷ c ∷ [])) ≡ a ∷ c ∷ b ∷ [] = subst (λ v. rotation_from v (reverse (a ∷ b ∷ c ∷ [])) ≡ a ∷ c ∷ b ∷ []) begins (reversed_steps a b c d.0 d.2) in
     let ac = back_turned mesh face l c a (nat_lt a c) refl d.2 m.2 m.0 in
     let cb = back_turned mesh face l b c (nat_lt c b) refl d.1 m.1 m.2 in
     let ba = back_turned mesh face l a b (nat_lt b a) refl d.0 m.0 m.1 in
@@ -141,8 +141,8 @@ two_ways mesh face l (a ∷ b ∷ c ∷ d ∷ xs) first begins h = absurd (omega
 pub flipped_face : (mesh : MeshLists) → IsMesh (length mesh.points) (corner_lists mesh) → (face : Elem) → face.id < count mesh Face
     → members mesh EdgesCcw (turned face) ≡ map turned (reverse (members mesh EdgesCcw face))
 flipped_face mesh is face l = go face.flipped where
-  both : (edges mesh (begun_at (get_or (corners mesh Face face.id) 0 0) (reverse (face_cycle mesh face.id))) ≡ map turned (reverse (edges mesh (face_cycle mesh face.id))))
-      × (edges mesh (face_cycle mesh face.id) ≡ map turned (reverse (edges mesh (begun_at (get_or (corners mesh Face face.id) 0 0) (reverse (face_cycle mesh face.id))))))
+  both : (edges mesh (rotation_from (get_or (corners mesh Face face.id) 0 0) (reverse (face_cycle mesh face.id))) ≡ map turned (reverse (edges mesh (face_cycle mesh face.id))))
+      × (edges mesh (face_cycle mesh face.id) ≡ map turned (reverse (edges mesh (rotation_from (get_or (corners mesh Face face.id) 0 0) (reverse (face_cycle mesh face.id))))))
   both = two_ways mesh face.id l (face_cycle mesh face.id) (get_or (corners mesh Face face.id) 0 0) (cycle_of_face mesh is face.id l).begins (through mesh is face.id l)
 
   go : (flipped : Bool) → members mesh EdgesCcw (turned (record { kind = face.kind; id = face.id; flipped = flipped }))

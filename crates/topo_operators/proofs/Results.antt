@@ -11,8 +11,8 @@ use Rattle.liszt_base.specs.declared.elements.Kind.TheVariants.{Vertex, Edge, Fa
 use Rattle.liszt_base.specs.declared.elements.SetName.{SetName}
 use Rattle.liszt_base.specs.declared.elements.SetName.TheVariants.{Vertices, Edges, Faces, Cells, EdgesCcw}
 use Rattle.mesh_topology.specs.Elements.{corner_lists, count, corners, is_incident, near, steps}
-use Rattle.mesh_topology.proofs.Sets.{Member}
-use Rattle.mesh_topology.proofs.Near.{kept_is, rising_is, vertex_count}
+use Rattle.mesh_topology.proofs.MemberLemmas.{Member}
+use Rattle.mesh_topology.proofs.NearLemmas.{kept_is, rising_is, vertex_count}
 use Rattle.topo_operators.specs.Operands.{IsElement, IsOf, CanVisit}
 use Rattle.topo_operators.specs.Operators.{unflipped, vertex_at, cell_at, cycle_of, edge_along, members, GoesAlong}
 use Rattle.topo_operators.proofs.Along.{face_along}

@@ -7,9 +7,9 @@ use Rattle.liszt_base.specs.MeshLists.{MeshLists}
 use Rattle.liszt_base.specs.declared.elements.Elem.{Elem}
 use Rattle.liszt_base.specs.declared.elements.Kind.TheVariants.{Vertex, Face, Cell}
 use Rattle.mesh_topology.specs.Elements.{corner_lists, count, corners, is_incident, sides}
-use Rattle.mesh_topology.proofs.Sets.{Member, included, member_at}
-use Rattle.mesh_topology.proofs.Near.{kept_is, rising_is, vertex_count}
-use Rattle.mesh_topology.proofs.FaceEdges.{GoesThrough, both_through}
+use Rattle.mesh_topology.proofs.MemberLemmas.{Member, included, member_at}
+use Rattle.mesh_topology.proofs.NearLemmas.{kept_is, rising_is, vertex_count}
+use Rattle.mesh_topology.proofs.FaceEdgeLemmas.{GoesThrough, both_through}
 use Rattle.topo_operators.specs.Operators.{cycle_of}
 
 -- the first side of a face is a cell of the mesh

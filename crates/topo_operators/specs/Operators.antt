@@ -10,7 +10,7 @@ use Rattle.liszt_base.specs.declared.elements.Kind.{Kind}
 use Rattle.liszt_base.specs.declared.elements.Kind.TheVariants.{Vertex, Edge, Face, Cell}
 use Rattle.liszt_base.specs.declared.elements.SetName.{SetName}
 use Rattle.liszt_base.specs.declared.elements.SetName.TheVariants.{Vertices, Edges, Faces, Cells, EdgesCcw}
-use Rattle.mesh_topology.specs.Elements.{count, corners, id_of_corners, near, sides, begun_at, steps, face_cycle}
+use Rattle.mesh_topology.specs.Elements.{count, corners, id_of_corners, near, sides, rotation_from, steps, face_cycle}
 
 -- An element as an operator takes it and gives it; nil is `None`.
 abbrev pub unflipped : Kind → ℕ → Elem
@@ -88,7 +88,7 @@ towards mesh x to = option_and_then (λ x'. option_and_then (towards_of mesh x')
 -- has the cycle reversed.
 abbrev pub cycle_of : MeshLists → Elem → List ℕ
 cycle_of mesh face =
-    if face.flipped then begun_at (slice_index (corners mesh Face face.id) 0) (reverse (face_cycle mesh face.id)) else face_cycle mesh face.id
+    if face.flipped then rotation_from (slice_index (corners mesh Face face.id) 0) (reverse (face_cycle mesh face.id)) else face_cycle mesh face.id
 
 abbrev pub edge_along : MeshLists → ℕ × ℕ → Elem
 edge_along mesh step =

@@ -6,7 +6,7 @@ ghost use Rattle.std.specs.List.{count_by, flat_map};
 ghost use Rattle.liszt_base.specs.declared.elements.Kind.TheVariants.{Vertex, Edge, Face, Cell};
 ghost use Rattle.liszt_base.specs.declared.elements.SetName.TheVariants.{Vertices, Edges, Faces, Cells, EdgesCcw};
 ghost use Rattle.mesh_topology.specs.Elements.{numbers};
-ghost use Rattle.mesh_topology.specs.Meshes.{one_cell, one_turned, two_cells};
+ghost use Rattle.mesh_topology.specs.Meshes.{one_cell, one_reversed, two_cells};
 ghost use Rattle.topo_operators.specs.Operators.{unflipped, turned, tail, head, inside, outside, flip, towards, same, valid, members, has_set};
 
 /// The ends of the six edges of one cell, and what flipping does to them.
@@ -41,7 +41,7 @@ fn sets_of_elements()
         ≡ 1 ∷ 1 ∷ 1 ∷ 1 ∷ 1 ∷ 1 ∷ [] }
     ensures each_against_once { map (λ e. count_by (λ x. (x.id == e) && x.flipped) (flat_map (λ f. members one_cell EdgesCcw (unflipped Face f)) (numbers 0 4))) (numbers 0 6)
         ≡ 1 ∷ 1 ∷ 1 ∷ 1 ∷ 1 ∷ 1 ∷ [] }
-    ensures turned_cell { members one_turned EdgesCcw (unflipped Face 0) ≡ unflipped Edge 0 ∷ unflipped Edge 3 ∷ turned (unflipped Edge 1) ∷ [] }
+    ensures turned_cell { members one_reversed EdgesCcw (unflipped Face 0) ≡ unflipped Edge 0 ∷ unflipped Edge 3 ∷ turned (unflipped Edge 1) ∷ [] }
     ensures no_ends { count_by (λ v. not (valid (towards one_cell (Some (unflipped Edge 0)) (Some v)))) (members one_cell Vertices (unflipped Face 1)) ≡ 1 }
 {}
 

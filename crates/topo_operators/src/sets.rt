@@ -5,8 +5,7 @@ ghost use Rattle.std.specs.List.{All, find};
 ghost use Rattle.std.specs.Iterator.{YieldsFirst};
 ghost use Rattle.liszt_base.specs.Corners.{is_in, includes, same_members, induced_cycles};
 ghost use Rattle.liszt_base.specs.declared.elements.Kind.TheVariants.{Vertex, Edge, Face, Cell};
-ghost use Rattle.mesh_topology.specs.Elements.{count, corners, near as Near, rotations, steps};
-ghost use Rattle.mesh_topology.specs.Tables.{has_near};
+ghost use Rattle.mesh_topology.specs.Elements.{count, corners, near as Near, rotations, steps, has_near};
 ghost use Rattle.topo_operators.specs.Operands.{CanVisit, IsElement};
 ghost use Rattle.topo_operators.specs.Operators.{cycle_of as CycleOf, edge_along as EdgeAlong, members as MembersOf, unflipped as Unflipped};
 ghost use Rattle.topo_operators.specs.Visits.{to_come};
@@ -126,7 +125,7 @@ fn includes_all(xs: [u32; 3], ys: [u32; 3]) -> bool
 }
 
 /// The cycle that begins at one of its three corners, where it is one.
-fn begun_at(first: u32, cycle: [u32; 3]) -> Option<[u32; 3]>
+fn rotation_from(first: u32, cycle: [u32; 3]) -> Option<[u32; 3]>
     ensures { result ≡ find (λ rotation. slice_index rotation 0 == first) (rotations cycle) }
 {
     let [a, b, c] = cycle;
@@ -168,9 +167,9 @@ fn cycle_of(m: &Mesh, face: Elem) -> Option<[u32; 3]>
     let corners = m.face_corners(face.id);
     let (side, _) = m.face_cells(face.id);
     let first = corners[0];
-    let [a, b, c] = begun_at(first, induced_through(corners, m.cell_corners(side))?)?;
+    let [a, b, c] = rotation_from(first, induced_through(corners, m.cell_corners(side))?)?;
     if face.flipped {
-        begun_at(first, [c, b, a])
+        rotation_from(first, [c, b, a])
     } else {
         Some([a, b, c])
     }
