@@ -27,9 +27,9 @@ use Rattle.liszt_tree.specs.declared.tree.Sign.TheVariants.{Or, And, Plus, Minus
 use Rattle.liszt_tree.specs.Tree.{Expression, Links, Statement, Body}
 use Rattle.mesh_topology.specs.Elements.{corner_lists, count}
 use Rattle.mesh_topology.proofs.NearLemmas.{vertex_count}
-use Rattle.topo_operators.specs.Operands.{IsElement, IsOf, CanVisit}
-use Rattle.topo_operators.specs.Operators.{head, tail, inside, outside, flip, valid, same, towards, members, unflipped, turned, points_to, tail_of, head_of, inside_of, outside_of}
-use Rattle.topo_operators.proofs.Results.{given, end_of, side_of, members_of}
+use Rattle.topo_operators.specs.Operands.{IsElement, IsNilOrElement, IsSetOperand}
+use Rattle.topo_operators.specs.Operators.{head, tail, inside, outside, flip, valid, same, towards, members, unflipped, reversed, points_to, tail_of, head_of, inside_of, outside_of}
+use Rattle.topo_operators.proofs.ResultLemmas.{nil_or_result, end_of, side_of, members_of}
 use Rattle.phase_types.specs.Names.{Names, Named, FieldName, ScalarName, LocalName, ElementName, named, is_built_in, Comprehension}
 use Rattle.phase_types.specs.Typed.{IsNew, StatementFits, FitsVar, FitsVal, FitsField, FitsScalar, FitsLocal, FitsIf, FitsWhile, FitsFor, BodyFits, FitsNothing, FitsThen, ComprehensionFits}
 use Rattle.phase_types.specs.Types.{ValueType, NumberType, TruthType, ElementType, call_type, operand_type, is_sameness, HasType, IsNumber, IsScalar, IsLocal, IsElement as IsElementName, IsField, IsCall, IsTowards, IsNeg, IsNot, IsChain, AreNumbers, AreElements, FollowsType, NoMore, OneMore}
@@ -79,12 +79,12 @@ ends_by_trap kind place = record { ends = λ m e. tt }
 data ValueFits (mesh : MeshLists) : ValueType → Value → Type 0 where
   NumberFits : (n : ℤ) → ValueFits mesh NumberType (NumberValue n)
   TruthFits : (b : Bool) → ValueFits mesh TruthType (TruthValue b)
-  ElementFits : {kind : Kind} (x : Option Elem) → IsOf mesh kind x → ValueFits mesh (ElementType kind) (ElementValue x)
+  ElementFits : {kind : Kind} (x : Option Elem) → IsNilOrElement mesh kind x → ValueFits mesh (ElementType kind) (ElementValue x)
 
 -- WHAT A NAME STANDS FOR in a moment, by what it stands for here and in the main program
 abbrev NameFits : MeshLists → Option Named → Bool → Option (Option Elem) → Option Named → Type 0
 NameFits mesh global is_local element (Some LocalName) = is_local ≡ true
-NameFits mesh global is_local element (Some (ElementName kind)) = (is_local ≡ false) × (x : Option Elem) × (element ≡ Some x) × IsOf mesh kind x
+NameFits mesh global is_local element (Some (ElementName kind)) = (is_local ≡ false) × (x : Option Elem) × (element ≡ Some x) × IsNilOrElement mesh kind x
 NameFits mesh global is_local element (Some (ScalarName number)) = (is_local ≡ false) × (element ≡ None) × (global ≡ Some (ScalarName number))
 NameFits mesh global is_local element (Some (FieldName number kind)) = (is_local ≡ false) × (global ≡ Some (FieldName number kind))
 NameFits mesh global is_local element None = is_local ≡ false
@@ -165,7 +165,7 @@ module _ (mesh : MeshLists) (globals : Names) where
     truth_fits : {v : Value} → ValueFits mesh TruthType v → Ends Fits (λ b. Unit {0}) Fits (truth_of v)
     truth_fits (TruthFits b) = record { ends = λ m f. (tt, f) }
 
-    element_fits : {kind : Kind} {v : Value} → ValueFits mesh (ElementType kind) v → Ends Fits (IsOf mesh kind) Fits (element_of v)
+    element_fits : {kind : Kind} {v : Value} → ValueFits mesh (ElementType kind) v → Ends Fits (IsNilOrElement mesh kind) Fits (element_of v)
     element_fits (ElementFits x of) = record { ends = λ m f. (of, f) }
 
     fitting_ends : (place : Place) (n : ℤ) → Gives NumberType (fitting place n)
@@ -205,7 +205,7 @@ module _ (mesh : MeshLists) (globals : Names) where
     elements_compared _ is a b = absurd cc
 
     -- calls
-    flipped : (kind : Kind) (x : Option Elem) → IsOf mesh kind x → IsOf mesh kind (flip x)
+    flipped : (kind : Kind) (x : Option Elem) → IsNilOrElement mesh kind x → IsNilOrElement mesh kind (flip x)
     flipped kind None of = of
     flipped kind (Some x) of = of
 
@@ -217,40 +217,40 @@ module _ (mesh : MeshLists) (globals : Names) where
     CallEnds place fun x (Some type) = Gives type (call_of mesh place fun x)
     CallEnds place fun x None = Unit {0}
 
-    call_ends : (place : Place) (fun : Fun) (kind : Kind) (x : Option Elem) → IsOf mesh kind x → CallEnds place fun x (call_type fun kind)
+    call_ends : (place : Place) (fun : Fun) (kind : Kind) (x : Option Elem) → IsNilOrElement mesh kind x → CallEnds place fun x (call_type fun kind)
     call_ends place Head Edge x of =
-        given_value (ElementFits (head mesh x) (given mesh Edge Vertex (head_of mesh) (λ x. end_of mesh x (cond x.flipped 0 1)) x of))
+        given_value (ElementFits (head mesh x) (nil_or_result mesh Edge Vertex (head_of mesh) (λ x. end_of mesh x (cond x.flipped 0 1)) x of))
     call_ends place Tail Edge x of =
-        given_value (ElementFits (tail mesh x) (given mesh Edge Vertex (tail_of mesh) (λ x. end_of mesh x (cond x.flipped 1 0)) x of))
+        given_value (ElementFits (tail mesh x) (nil_or_result mesh Edge Vertex (tail_of mesh) (λ x. end_of mesh x (cond x.flipped 1 0)) x of))
     call_ends place Inside Face x of =
-        given_value (ElementFits (inside mesh x) (given mesh Face Cell (inside_of mesh) (λ x is. side_of mesh x (cond x.flipped 1 0)) x of))
+        given_value (ElementFits (inside mesh x) (nil_or_result mesh Face Cell (inside_of mesh) (λ x is. side_of mesh x (cond x.flipped 1 0)) x of))
     call_ends place Outside Face x of =
-        given_value (ElementFits (outside mesh x) (given mesh Face Cell (outside_of mesh) (λ x is. side_of mesh x (cond x.flipped 0 1)) x of))
+        given_value (ElementFits (outside mesh x) (nil_or_result mesh Face Cell (outside_of mesh) (λ x is. side_of mesh x (cond x.flipped 0 1)) x of))
     call_ends place Flip Edge x of = given_value (ElementFits (flip x) (flipped Edge x of))
     call_ends place Flip Face x of = given_value (ElementFits (flip x) (flipped Face x of))
     call_ends place Valid kind x of = given_value (TruthFits (valid x))
     call_ends place Id kind x of = id_ends place x
     call_ends place _ _ x of = tt
 
-    pointed : (kind : Kind) (x to : Option Elem) → IsOf mesh kind x → IsOf mesh kind (towards mesh x to)
+    pointed : (kind : Kind) (x to : Option Elem) → IsNilOrElement mesh kind x → IsNilOrElement mesh kind (towards mesh x to)
     pointed kind None to of = tt
     pointed kind (Some x) None of = tt
     pointed kind (Some x) (Some to) of =
-        one (same (points_to mesh (unflipped x.kind x.id)) (Some to)) (same (points_to mesh (turned (unflipped x.kind x.id))) (Some to)) where
-          one : (b c : Bool) → IsOf mesh kind (cond b (Some (unflipped x.kind x.id)) (cond c (Some (turned (unflipped x.kind x.id))) None))
+        one (same (points_to mesh (unflipped x.kind x.id)) (Some to)) (same (points_to mesh (reversed (unflipped x.kind x.id))) (Some to)) where
+          one : (b c : Bool) → IsNilOrElement mesh kind (cond b (Some (unflipped x.kind x.id)) (cond c (Some (reversed (unflipped x.kind x.id))) None))
           one true c = of
           one false true = of
           one false false = tt
 
     -- fields
-    field_read_ends : (place : Place) (number : ℕ) (kind : Kind) (x : Option Elem) (m : Moment) → IsOf mesh kind x → Fits m
+    field_read_ends : (place : Place) (number : ℕ) (kind : Kind) (x : Option Elem) (m : Moment) → IsNilOrElement mesh kind x → Fits m
         → EntryFits mesh m.state (FieldName number kind) → Comes (ValueFits mesh NumberType) Fits (field_read mesh place (Some (FieldName number kind)) x m)
     field_read_ends place number kind None m of f is = tt
     field_read_ends place number kind (Some x) m of f is =
         let n = held_value m.state number kind x is of.1 in
         rw n.1 (NumberFits n.0, fits_like m _ (same_names m _ (like_itself m.state) refl refl) f)
 
-    field_ends : (place : Place) (name : List ℕ) (number : ℕ) (kind : Kind) (x : Option Elem) → named names name ≡ Some (FieldName number kind) → IsOf mesh kind x
+    field_ends : (place : Place) (name : List ℕ) (number : ℕ) (kind : Kind) (x : Option Elem) → named names name ≡ Some (FieldName number kind) → IsNilOrElement mesh kind x
         → Gives NumberType (field_read mesh place (named globals name) x)
     field_ends place name number kind x is of = record {
       ends = λ m f.
@@ -299,7 +299,7 @@ module _ (mesh : MeshLists) (globals : Names) where
     pub truth_ends : {e : Expression} → HasType names e TruthType → Ends Fits (λ b. Unit {0}) Fits (truth_in mesh globals e)
     truth_ends h = ends_then (means h) (λ v fits. truth_fits fits)
 
-    element_ends : (kind : Kind) {e : Expression} → HasType names e (ElementType kind) → Ends Fits (IsOf mesh kind) Fits (element_in mesh globals e)
+    element_ends : (kind : Kind) {e : Expression} → HasType names e (ElementType kind) → Ends Fits (IsNilOrElement mesh kind) Fits (element_in mesh globals e)
     element_ends kind h = ends_then (means h) (λ v fits. element_fits fits)
 
     -- STATEMENTS
@@ -320,7 +320,7 @@ module _ (mesh : MeshLists) (globals : Names) where
       );
     }
 
-    named_ends : (name : List ℕ) (kind : Kind) (x : Option Elem) → IsNew names name → IsOf mesh kind x
+    named_ends : (name : List ℕ) (kind : Kind) (x : Option Elem) → IsNew names name → IsNilOrElement mesh kind x
         → Does ((name, ElementName kind) ∷ names) (changes (with_element name x))
     named_ends name kind x new of = record {
       ends = λ m f. (
@@ -336,14 +336,14 @@ module _ (mesh : MeshLists) (globals : Names) where
     }
 
     -- assignments
-    spot_set_ends : (place : Place) (how : How) (number : ℕ) (kind : Kind) (n : ℤ) (x : Option Elem) (m : Moment) → IsOf mesh kind x → Fits m
+    spot_set_ends : (place : Place) (how : How) (number : ℕ) (kind : Kind) (n : ℤ) (x : Option Elem) (m : Moment) → IsNilOrElement mesh kind x → Fits m
         → IsLive mesh m.state number kind → Comes (λ done. Unit {0}) Fits (field_assigned place how (Some (FieldName number kind)) n x m)
     spot_set_ends place how number kind n None m of f live = tt
     spot_set_ends place how number kind n (Some x) m of f live =
         let old = live_value m.state number kind x live of.1 in rw old.1 (tt, fits_like m _ (spot_set (spot_of number x) how n old.0 m) f)
 
     field_set_ends : (place : Place) (name : List ℕ) (how : How) (number : ℕ) (kind : Kind) (n : ℤ) (x : Option Elem)
-        → named names name ≡ Some (FieldName number kind) → is_built_in number ≡ false → IsOf mesh kind x
+        → named names name ≡ Some (FieldName number kind) → is_built_in number ≡ false → IsNilOrElement mesh kind x
         → Does names (field_assigned place how (named globals name) n x)
     field_set_ends place name how number kind n x is own of = record {
       ends = λ m f.
@@ -407,10 +407,10 @@ module _ (mesh : MeshLists) (globals : Names) where
     each_ends kind h (x ∷ xs) all = ends_then (h x all.0) (λ done any. each_ends kind h xs all.1)
 
   module _ (is_mesh : IsMesh (length mesh.points) (corner_lists mesh)) where
-    can_visit : (kind : Kind) (set : SetName) (x : Elem) → IsElement mesh kind x → has_set kind set ≡ true → CanVisit mesh set x
-    can_visit kind set x is has = record { in_range = rw is.0 is.1; has = rw is.0 has }
+    can_visit : (kind : Kind) (set : SetName) (x : Elem) → IsElement mesh kind x → has_set kind set ≡ true → IsSetOperand mesh set x
+    can_visit kind set x is has = record { in_range = rw is.0 is.1; kind_has_set = rw is.0 has }
 
-    members_end : (names : Names) (place : Place) (kind : Kind) (set : SetName) (body : Option Elem → Doing Moment (Unit {0})) (x : Option Elem) → IsOf mesh kind x
+    members_end : (names : Names) (place : Place) (kind : Kind) (set : SetName) (body : Option Elem → Doing Moment (Unit {0})) (x : Option Elem) → IsNilOrElement mesh kind x
         → has_set kind set ≡ true → ((member : Elem) → IsElement mesh (kind_of set) member → Does names names (in_block (body (Some member))))
         → Does names names (each_member mesh place body (members mesh set) x)
     members_end names place kind set body None of has h = ends_by_trap NilElement place

@@ -13,9 +13,9 @@ use Rattle.liszt_base.specs.declared.elements.SetName.TheVariants.{Vertices, Edg
 use Rattle.mesh_topology.specs.Elements.{corner_lists, count, corners, is_incident, near, steps}
 use Rattle.mesh_topology.proofs.MemberLemmas.{Member}
 use Rattle.mesh_topology.proofs.NearLemmas.{kept_is, rising_is, vertex_count}
-use Rattle.topo_operators.specs.Operands.{IsElement, IsOf, CanVisit}
+use Rattle.topo_operators.specs.Operands.{IsElement, IsNilOrElement, IsSetOperand}
 use Rattle.topo_operators.specs.Operators.{unflipped, vertex_at, cell_at, cycle_of, edge_along, members, GoesAlong}
-use Rattle.topo_operators.proofs.Along.{face_along}
+use Rattle.topo_operators.proofs.EdgeAlongLemmas.{face_along}
 
 -- ids in range
 abbrev AreIds : MeshLists → Kind → List ℕ → Type 0
@@ -28,27 +28,27 @@ end_ids : (mesh : MeshLists) (edge : ℕ) → edge < count mesh Edge → AreIds 
 end_ids mesh edge l v m = omega (arith, vertex_count mesh, (rising_is mesh Edge 2 refl edge l).below v m)
 
 -- the element at a place, or nil
-one_of : (mesh : MeshLists) (kind : Kind) (ids : List ℕ) (place : ℕ) → AreIds mesh kind ids → IsOf mesh kind (option_map (unflipped kind) (slice_get ids place))
-one_of mesh kind [] place are = tt
-one_of mesh kind (id ∷ ids) zero are = (refl, are id (inl refl))
-one_of mesh kind (id ∷ ids) (suc place) are = one_of mesh kind ids place (λ v m. are v (inr m))
+nil_or_nth : (mesh : MeshLists) (kind : Kind) (ids : List ℕ) (place : ℕ) → AreIds mesh kind ids → IsNilOrElement mesh kind (option_map (unflipped kind) (slice_get ids place))
+nil_or_nth mesh kind [] place are = tt
+nil_or_nth mesh kind (id ∷ ids) zero are = (refl, are id (inl refl))
+nil_or_nth mesh kind (id ∷ ids) (suc place) are = nil_or_nth mesh kind ids place (λ v m. are v (inr m))
 
 -- the elements of a list
-each_of : (mesh : MeshLists) (kind : Kind) (ids : List ℕ) → AreIds mesh kind ids → AllByRecursion (IsElement mesh kind) (map (unflipped kind) ids)
-each_of mesh kind [] are = tt
-each_of mesh kind (id ∷ ids) are = ((refl, are id (inl refl)), each_of mesh kind ids (λ v m. are v (inr m)))
+all_elements : (mesh : MeshLists) (kind : Kind) (ids : List ℕ) → AreIds mesh kind ids → AllByRecursion (IsElement mesh kind) (map (unflipped kind) ids)
+all_elements mesh kind [] are = tt
+all_elements mesh kind (id ∷ ids) are = ((refl, are id (inl refl)), all_elements mesh kind ids (λ v m. are v (inr m)))
 
 -- an operator gives nil of nil
-pub given : (mesh : MeshLists) (kind out : Kind) (of : Elem → Option Elem) → ((x : Elem) → IsElement mesh kind x → IsOf mesh out (of x))
-    → (x : Option Elem) → IsOf mesh kind x → IsOf mesh out (option_and_then of x)
-given mesh kind out of each None is = tt
-given mesh kind out of each (Some x) is = each x is
+pub nil_or_result : (mesh : MeshLists) (kind out : Kind) (of : Elem → Option Elem) → ((x : Elem) → IsElement mesh kind x → IsNilOrElement mesh out (of x))
+    → (x : Option Elem) → IsNilOrElement mesh kind x → IsNilOrElement mesh out (option_and_then of x)
+nil_or_result mesh kind out of each None is = tt
+nil_or_result mesh kind out of each (Some x) is = each x is
 
-pub end_of : (mesh : MeshLists) (edge : Elem) (place : ℕ) → IsElement mesh Edge edge → IsOf mesh Vertex (vertex_at mesh edge place)
-end_of mesh edge place is = one_of mesh Vertex (corners mesh Edge edge.id) place (end_ids mesh edge.id is.1)
+pub end_of : (mesh : MeshLists) (edge : Elem) (place : ℕ) → IsElement mesh Edge edge → IsNilOrElement mesh Vertex (vertex_at mesh edge place)
+end_of mesh edge place is = nil_or_nth mesh Vertex (corners mesh Edge edge.id) place (end_ids mesh edge.id is.1)
 
-pub side_of : (mesh : MeshLists) (face : Elem) (place : ℕ) → IsOf mesh Cell (cell_at mesh face place)
-side_of mesh face place = one_of mesh Cell (near mesh Face face.id Cell) place (near_ids mesh Face face.id Cell)
+pub side_of : (mesh : MeshLists) (face : Elem) (place : ℕ) → IsNilOrElement mesh Cell (cell_at mesh face place)
+side_of mesh face place = nil_or_nth mesh Cell (near mesh Face face.id Cell) place (near_ids mesh Face face.id Cell)
 
 -- edges that go along steps
 along_edges : (mesh : MeshLists) (each : List (ℕ × ℕ)) → AllByRecursion (λ p. GoesAlong mesh p.0 p.1) (zip each (map (edge_along mesh) each))
@@ -63,10 +63,10 @@ is_face mesh Vertex id l has = cc
 is_face mesh Edge id l has = cc
 is_face mesh Cell id l has = cc
 
-pub members_of : (mesh : MeshLists) (set : SetName) (x : Elem) → IsMesh (length mesh.points) (corner_lists mesh) → CanVisit mesh set x
+pub members_of : (mesh : MeshLists) (set : SetName) (x : Elem) → IsMesh (length mesh.points) (corner_lists mesh) → IsSetOperand mesh set x
     → AllByRecursion (IsElement mesh (kind_of set)) (members mesh set x)
-members_of mesh Vertices x is can = each_of mesh Vertex (near mesh x.kind x.id Vertex) (near_ids mesh x.kind x.id Vertex)
-members_of mesh Edges x is can = each_of mesh Edge (near mesh x.kind x.id Edge) (near_ids mesh x.kind x.id Edge)
-members_of mesh Faces x is can = each_of mesh Face (near mesh x.kind x.id Face) (near_ids mesh x.kind x.id Face)
-members_of mesh Cells x is can = each_of mesh Cell (near mesh x.kind x.id Cell) (near_ids mesh x.kind x.id Cell)
-members_of mesh EdgesCcw x is can = along_edges mesh (steps (cycle_of mesh x)) (face_along mesh is x (is_face mesh x.kind x.id can.in_range can.has)).1
+members_of mesh Vertices x is can = all_elements mesh Vertex (near mesh x.kind x.id Vertex) (near_ids mesh x.kind x.id Vertex)
+members_of mesh Edges x is can = all_elements mesh Edge (near mesh x.kind x.id Edge) (near_ids mesh x.kind x.id Edge)
+members_of mesh Faces x is can = all_elements mesh Face (near mesh x.kind x.id Face) (near_ids mesh x.kind x.id Face)
+members_of mesh Cells x is can = all_elements mesh Cell (near mesh x.kind x.id Cell) (near_ids mesh x.kind x.id Cell)
+members_of mesh EdgesCcw x is can = along_edges mesh (steps (cycle_of mesh x)) (face_along mesh is x (is_face mesh x.kind x.id can.in_range can.kind_has_set)).1
