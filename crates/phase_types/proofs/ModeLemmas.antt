@@ -9,8 +9,8 @@ use Rattle.liszt_base.specs.declared.answers.ProgramFault.{ProgramFault}
 use Rattle.liszt_base.specs.declared.elements.Op.{Op}
 use Rattle.liszt_base.specs.declared.elements.Op.TheVariants.{Add, Mul, And, Or, Xor, Min, Max}
 use Rattle.phase_types.specs.Typed.{AgreesWith, HaveOneMode}
-use Rattle.phase_types.specs.Walk.{Subject, OfField, OfScalar, is_subject, AccessAt, is_op, is_mode, Step, Test, Accesses, access_of, conflict_place, conflict, found_behind}
-use Rattle.phase_types.proofs.Walking.{all_of_both, all_of_first, all_of_second, Passes, AllPass}
+use Rattle.phase_types.specs.Walk.{Subject, OfField, OfScalar, is_subject, AccessAt, is_op, is_mode, Step, TestStep, AccessStep, access_of, conflict_place, conflict, faults_in_steps}
+use Rattle.phase_types.proofs.StepLemmas.{all_of_both, all_of_first, all_of_second, Passes, AllPass}
 
 -- equality of subjects and of modes
 ops_are : (op other : Op) → is_op op other ≡ true → op ≡ other
@@ -75,14 +75,14 @@ is_same access earlier = is_subject access.subject earlier.subject
 
 none_of_place : (access : AccessAt) (same : List AccessAt) → conflict_place access same ≡ None → list_any (differs access) same ≡ false
 none_of_place access [] e = refl
-none_of_place access (other ∷ more) e = go (list_any (differs access) (other ∷ more)) refl e where
-  go : (b : Bool) → list_any (differs access) (other ∷ more) ≡ b → cond b (Some other.place) None ≡ None → list_any (differs access) (other ∷ more) ≡ false
+none_of_place access (other ∷ rest) e = go (list_any (differs access) (other ∷ rest)) refl e where
+  go : (b : Bool) → list_any (differs access) (other ∷ rest) ≡ b → cond b (Some other.place) None ≡ None → list_any (differs access) (other ∷ rest) ≡ false
   go true is e = absurd cc
   go false is e = is
 
 place_of_none : (access : AccessAt) (same : List AccessAt) → list_any (differs access) same ≡ false → conflict_place access same ≡ None
 place_of_none access [] e = refl
-place_of_none access (other ∷ more) e = ap (λ b. cond b (Some other.place) None) e
+place_of_none access (other ∷ rest) e = ap (λ b. cond b (Some other.place) None) e
 
 agreeing : (access earlier : AccessAt) → is_same access earlier ≡ true → differs access earlier ≡ false → AgreesWith earlier access
 agreeing access earlier is e = λ same. sym (modes_are access.mode earlier.mode (go (is_mode access.mode earlier.mode) e)) where
@@ -94,27 +94,27 @@ agreeing access earlier is e = λ same. sym (modes_are access.mode earlier.mode 
 all_agree : (access : AccessAt) (earlier : List AccessAt) → list_any (differs access) (filter (is_same access) earlier) ≡ false
     → AllByRecursion (λ other. AgreesWith other access) earlier
 all_agree access [] e = tt
-all_agree access (other ∷ more) e = go (is_same access other) refl (all_agree access more) e where
-  rest : List AccessAt
-  rest = filter (is_same access) more
+all_agree access (other ∷ rest) e = go (is_same access other) refl (all_agree access rest) e where
+  others : List AccessAt
+  others = filter (is_same access) rest
 
-  go : (b : Bool) → is_same access other ≡ b → (list_any (differs access) rest ≡ false → AllByRecursion (λ other. AgreesWith other access) more)
-      → list_any (differs access) (cond b (other ∷ rest) rest) ≡ false → AgreesWith other access × AllByRecursion (λ other. AgreesWith other access) more
+  go : (b : Bool) → is_same access other ≡ b → (list_any (differs access) others ≡ false → AllByRecursion (λ other. AgreesWith other access) rest)
+      → list_any (differs access) (cond b (other ∷ others) others) ≡ false → AgreesWith other access × AllByRecursion (λ other. AgreesWith other access) rest
   go true is again e =
-      let both = none_of_both (differs access other) (list_any (differs access) rest) e in
+      let both = none_of_both (differs access other) (list_any (differs access) others) e in
       (agreeing access other is both.0, again both.1)
   go false is again e = ((λ same. absurd (cc (is, turned other.subject access.subject same))), again e)
 
 none_differs : (access : AccessAt) (earlier : List AccessAt) → AllByRecursion (λ other. AgreesWith other access) earlier
     → list_any (differs access) (filter (is_same access) earlier) ≡ false
 none_differs access [] h = refl
-none_differs access (other ∷ more) h = go (is_same access other) refl (none_differs access more h.1) where
-  rest : List AccessAt
-  rest = filter (is_same access) more
+none_differs access (other ∷ rest) h = go (is_same access other) refl (none_differs access rest h.1) where
+  others : List AccessAt
+  others = filter (is_same access) rest
 
-  go : (b : Bool) → is_same access other ≡ b → list_any (differs access) rest ≡ false → list_any (differs access) (cond b (other ∷ rest) rest) ≡ false
+  go : (b : Bool) → is_same access other ≡ b → list_any (differs access) others ≡ false → list_any (differs access) (cond b (other ∷ others) others) ≡ false
   go true is again =
-      both_false (differs access other) (list_any (differs access) rest)
+      both_false (differs access other) (list_any (differs access) others)
       (ap (λ mode. not (is_mode access.mode mode)) (h.0 (turned access.subject other.subject is)) ∙ ap not (same_mode access.mode)) again
   go false is again = again
 
@@ -133,59 +133,59 @@ agreed_no_conflict earlier access h =
 -- each access in turn, with those before it
 abbrev NoConflicts : List AccessAt → List AccessAt → Type 0
 NoConflicts earlier [] = Unit {0}
-NoConflicts earlier (access ∷ more) = (conflict earlier access ≡ None) × NoConflicts (earlier ++ access ∷ []) more
+NoConflicts earlier (access ∷ rest) = (conflict earlier access ≡ None) × NoConflicts (earlier ++ access ∷ []) rest
 
 abbrev AllAgree : List AccessAt → List AccessAt → Type 0
 AllAgree earlier accesses = AllByRecursion (λ other. AllByRecursion (AgreesWith other) accesses) earlier
 
 nothing_to_agree : (earlier : List AccessAt) → AllAgree earlier []
 nothing_to_agree [] = tt
-nothing_to_agree (other ∷ more) = (tt, nothing_to_agree more)
+nothing_to_agree (other ∷ rest) = (tt, nothing_to_agree rest)
 
 put_first : (access : AccessAt) (accesses earlier : List AccessAt) → AllByRecursion (λ other. AgreesWith other access) earlier → AllAgree earlier accesses
     → AllAgree earlier (access ∷ accesses)
 put_first access accesses [] h g = tt
-put_first access accesses (other ∷ more) h g = ((h.0, g.0), put_first access accesses more h.1 g.1)
+put_first access accesses (other ∷ rest) h g = ((h.0, g.0), put_first access accesses rest h.1 g.1)
 
 taken_first : (access : AccessAt) (accesses earlier : List AccessAt) → AllAgree earlier (access ∷ accesses)
     → AllByRecursion (λ other. AgreesWith other access) earlier × AllAgree earlier accesses
 taken_first access accesses [] h = (tt, tt)
-taken_first access accesses (other ∷ more) h = let rest = taken_first access accesses more h.1 in ((h.0.0, rest.0), (h.0.1, rest.1))
+taken_first access accesses (other ∷ rest) h = let others = taken_first access accesses rest h.1 in ((h.0.0, others.0), (h.0.1, others.1))
 
 one_mode : (accesses earlier : List AccessAt) → NoConflicts earlier accesses → AllAgree earlier accesses × HaveOneMode accesses
 one_mode [] earlier h = (nothing_to_agree earlier, tt)
-one_mode (access ∷ more) earlier h =
-    let rest = one_mode more (earlier ++ access ∷ []) h.1 in (
-      put_first access more earlier (no_conflict_agrees earlier access h.0) (all_of_first _ earlier (access ∷ []) rest.0),
-      ((all_of_second _ earlier (access ∷ []) rest.0).0, rest.1),
+one_mode (access ∷ rest) earlier h =
+    let others = one_mode rest (earlier ++ access ∷ []) h.1 in (
+      put_first access rest earlier (no_conflict_agrees earlier access h.0) (all_of_first _ earlier (access ∷ []) others.0),
+      ((all_of_second _ earlier (access ∷ []) others.0).0, others.1),
     )
 
 no_conflicts : (accesses earlier : List AccessAt) → AllAgree earlier accesses → HaveOneMode accesses → NoConflicts earlier accesses
 no_conflicts [] earlier h g = tt
-no_conflicts (access ∷ more) earlier h g =
-    let parts = taken_first access more earlier h in
-    (agreed_no_conflict earlier access parts.0, no_conflicts more (earlier ++ access ∷ []) (all_of_both _ earlier (access ∷ []) parts.1 (g.0, tt)) g.1)
+no_conflicts (access ∷ rest) earlier h g =
+    let parts = taken_first access rest earlier h in
+    (agreed_no_conflict earlier access parts.0, no_conflicts rest (earlier ++ access ∷ []) (all_of_both _ earlier (access ∷ []) parts.1 (g.0, tt)) g.1)
 
 -- WHAT THE STEPS FIND: nothing where all tests pass and no access is in conflict
 abbrev pub IsNone : Option ProgramFault → Type 0
 IsNone fault = fault ≡ None
 
 nothing_found : (steps : List Step) (earlier : List AccessAt) → AllByRecursion Passes steps → NoConflicts earlier (filter_map access_of steps)
-    → AllByRecursion IsNone (found_behind earlier steps)
+    → AllByRecursion IsNone (faults_in_steps earlier steps)
 nothing_found [] earlier h g = tt
-nothing_found (Test fault ∷ steps) earlier h g = (h.0, nothing_found steps earlier h.1 g)
-nothing_found (Accesses access ∷ steps) earlier h g = (g.0, nothing_found steps (earlier ++ access ∷ []) h.1 g.1)
+nothing_found (TestStep fault ∷ steps) earlier h g = (h.0, nothing_found steps earlier h.1 g)
+nothing_found (AccessStep access ∷ steps) earlier h g = (g.0, nothing_found steps (earlier ++ access ∷ []) h.1 g.1)
 
-found_nothing : (steps : List Step) (earlier : List AccessAt) → AllByRecursion IsNone (found_behind earlier steps)
+found_nothing : (steps : List Step) (earlier : List AccessAt) → AllByRecursion IsNone (faults_in_steps earlier steps)
     → AllByRecursion Passes steps × NoConflicts earlier (filter_map access_of steps)
 found_nothing [] earlier h = (tt, tt)
-found_nothing (Test fault ∷ steps) earlier h = let rest = found_nothing steps earlier h.1 in ((h.0, rest.0), rest.1)
-found_nothing (Accesses access ∷ steps) earlier h = let rest = found_nothing steps (earlier ++ access ∷ []) h.1 in ((tt, rest.0), (h.0, rest.1))
+found_nothing (TestStep fault ∷ steps) earlier h = let others = found_nothing steps earlier h.1 in ((h.0, others.0), others.1)
+found_nothing (AccessStep access ∷ steps) earlier h = let others = found_nothing steps (earlier ++ access ∷ []) h.1 in ((tt, others.0), (h.0, others.1))
 
-pub steps_find_nothing : (steps : List Step) → AllPass steps → HaveOneMode (filter_map access_of steps) → AllByRecursion IsNone (found_behind [] steps)
+pub steps_find_nothing : (steps : List Step) → AllPass steps → HaveOneMode (filter_map access_of steps) → AllByRecursion IsNone (faults_in_steps [] steps)
 steps_find_nothing steps h g = nothing_found steps [] h.all (no_conflicts (filter_map access_of steps) [] tt g)
 
-pub nothing_in_steps : (steps : List Step) → AllByRecursion IsNone (found_behind [] steps) → AllPass steps × HaveOneMode (filter_map access_of steps)
+pub nothing_in_steps : (steps : List Step) → AllByRecursion IsNone (faults_in_steps [] steps) → AllPass steps × HaveOneMode (filter_map access_of steps)
 nothing_in_steps steps h =
     let parts = found_nothing steps [] h in
     (record { all = parts.0 }, (one_mode (filter_map access_of steps) [] parts.1).1)
