@@ -1,3 +1,4 @@
+pub mod BindingLemmas
 pub mod FaultLemmas
 pub mod ModeLemmas
 pub mod PartLemmas

@@ -10,7 +10,7 @@ use Rattle.phase_types.specs.Environments.{Part, Site, IsPrefix, block_start, af
 same_parts : (before : List Part) → IsPrefix before before
 same_parts before = record { rest = []; appended = sym (append-nil before) }
 
-next_part : (before : List Part) (part : Part) → IsPrefix before (before ++ part ∷ [])
+pub next_part : (before : List Part) (part : Part) → IsPrefix before (before ++ part ∷ [])
 next_part before part = record { rest = part ∷ []; appended = refl }
 
 prefix_of_prefix : {a b c : List Part} → IsPrefix a b → IsPrefix b c → IsPrefix a c

@@ -1,5 +1,5 @@
 -- What the names of a program denote, and what it declares in the order of its text. This project's own.
-use Rattle.std.specs.Prelude.{◌≡◌, ℕ, ◌+◌, nat_lt, Bool, true, if◌then◌else◌, Option, Some, None, List, [], ◌∷◌, ◌++◌, length, codes, slice_get}
+use Rattle.std.specs.Prelude.{◌≡◌, ◌⊎◌, ℕ, ◌+◌, nat_lt, Bool, true, if◌then◌else◌, Option, Some, None, List, [], ◌∷◌, ◌++◌, length, codes, slice_get}
 use Rattle.std.specs.List.{find, filter_map}
 use Rattle.std.specs.Option.{option_map}
 use Rattle.std.specs.Str.{bytes_eq}
@@ -176,3 +176,21 @@ scopes_of program = scopes_in (parts_of program)
 pub record IsPrefix (before after : List Part) : Type 0 where
   pub rest : List Part
   pub appended : after ≡ before ++ rest
+
+-- a declared field of this name and kind, whose number is `first_declared` and its index among the declared fields
+pub record IsDeclaredField (parts : List Part) (name : List ℕ) (number : ℕ) (kind : Kind) : Type 0 where
+  pub index : ℕ
+  pub scope : ℕ
+  pub number_is : number ≡ first_declared + index
+  pub at_index : slice_get (fields_in parts) index ≡ Some (record { name = name; kind = kind; scope = scope })
+
+-- the field or the scalar that a name of the main program denotes is the one with the number of its binding
+abbrev pub DenotesPart : List Part → List ℕ → Binding → Type 0
+DenotesPart parts name (FieldName number kind) =
+    (binding_of built_in_fields name ≡ Some (FieldName number kind)) ⊎ IsDeclaredField parts name number kind
+DenotesPart parts name (ScalarName number) = slice_get (scalars_in parts) number ≡ Some name
+DenotesPart parts name _ = ⊥
+
+-- all names that are visible at a site denote parts that precede it
+pub record BindsParts (site : Site) : Type 0 where
+  pub denotes : (name : List ℕ) (binding : Binding) → binding_of site.environment name ≡ Some binding → DenotesPart site.parts name binding

@@ -2,9 +2,9 @@
 
 ghost use Rattle.std.specs.Prelude.{◌≡◌, ℕ, Some, None, List, ◌∷◌, ◌++◌, length, slice_get};
 ghost use Rattle.liszt_tree.specs.Tree.{Expression, Main, MainItem};
-ghost use Rattle.phase_types.specs.Environments.{Environment, Site, Part, FieldPart, ScalarPart, ComprehensionPart, ScopePart, Comprehension, IsPrefix, after_item, after_main, fields_in, scalars_in, comprehensions_in, scopes_in};
+ghost use Rattle.phase_types.specs.Environments.{Environment, Binding, binding_of, Site, start, Part, FieldPart, ScalarPart, ComprehensionPart, ScopePart, Comprehension, IsPrefix, DenotesPart, BindsParts, block_start, after_item, after_main, fields_in, scalars_in, comprehensions_in, scopes_in};
 ghost use Rattle.phase_types.specs.declared.info.FieldInfo.{FieldInfo as Info};
-ghost use Rattle.phase_types.specs.Typed.{IsTyped};
+ghost use Rattle.phase_types.specs.Typed.{IsTyped, ItemFits, MainFits};
 ghost use Rattle.phase_types.specs.Types.{HasType, ValueType, type_of};
 ghost use Rattle.phase_types.specs.Walk.{check_fault};
 
@@ -41,4 +41,22 @@ pub fn parts_are_numbered_in_order()
     ensures scopes { (before rest : List Part) (parent : ℕ)
         → slice_get (scopes_in (before ++ ScopePart parent ∷ rest)) (length (scopes_in before))
         ≡ Some parent }
+{}
+
+/// Names denote parts by their numbers: at each site the binding of a visible name has the number of the built-in field, or of the
+/// declared field or scalar of that name, and a typed item leaves it unchanged. Later parts change no number.
+pub fn bindings_denote_parts()
+    ensures start { BindsParts start }
+    ensures after_item { (site : Site) (i : MainItem) → BindsParts site → BindsParts (after_item site i) }
+    ensures after_items { (site : Site) (program : Main) → BindsParts site
+        → BindsParts (after_main site program) }
+    ensures block { (site : Site) → BindsParts site → BindsParts (block_start site) }
+    ensures later_parts { (parts rest : List Part) (name : List ℕ) (binding : Binding)
+        → DenotesPart parts name binding → DenotesPart (parts ++ rest) name binding }
+    ensures unchanged_by_item { (site : Site) (i : MainItem) (name : List ℕ) (binding : Binding)
+        → ItemFits site i → binding_of site.environment name ≡ Some binding
+        → binding_of (after_item site i).environment name ≡ Some binding }
+    ensures unchanged_by_items { (site : Site) (program : Main) (name : List ℕ) (binding : Binding)
+        → MainFits site program → binding_of site.environment name ≡ Some binding
+        → binding_of (after_main site program).environment name ≡ Some binding }
 {}
