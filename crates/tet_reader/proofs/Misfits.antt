@@ -9,7 +9,7 @@ use Rattle.std.specs.List.Sorted.{IsPermutation, IsSorted}
 use Rattle.std.proofs.lemmas.Bool.{and_left, and_right}
 use Rattle.std.proofs.lemmas.List.{map-append}
 use Rattle.std.proofs.lemmas.Map.Text.{is_eq-slice_cmp}
-use Rattle.liszt_base.specs.Corners.{is_in, includes, same_members, are_different, induced_cycles, along, comes_again, is_third}
+use Rattle.liszt_base.specs.Corners.{is_in, includes, same_members, are_different, induced_cycles, along, repeats_earlier, is_third}
 use Rattle.liszt_base.specs.declared.mesh.RawCell.{RawCell}
 use Rattle.tet_reader.specs.declared.misfit.Row.{Row}
 use Rattle.tet_reader.specs.Misfits.{first_true}
@@ -69,9 +69,9 @@ or_false true = refl
 or_false false = refl
 
 -- and so along all cells
-along_alone : (cells : List (List ℕ)) → AllByRecursion AreCorners cells → along (again 0) [] (map alone cells) ≡ along comes_again [] cells
+along_alone : (cells : List (List ℕ)) → AllByRecursion AreCorners cells → along (again 0) [] (map alone cells) ≡ along repeats_earlier [] cells
 along_alone cells a =
-    along_map AreCorners alone (again 0) comes_again
+    along_map AreCorners alone (again 0) repeats_earlier
     (λ earlier x e c. or_false (nat_lt 0 (held x (map alone earlier))) ∙ held_alone x earlier) [] cells tt a
 
 -- the corners are the one piece
@@ -187,8 +187,8 @@ table_is few back e pieces are test tests cells a rows sorted z p s =
 pub twice_is : (cells : List RawCell) → AllByRecursion (λ cell. AreCorners cell.corners) cells → (rows sorted : List (Row (List ℕ)))
     → AllZip IsRow rows (placed 0 (map (λ cell. alone cell.corners) cells)) → IsPermutation rows sorted
     → IsSorted (row_order (slice_cmp nat_cmp)) sorted
-    → reduce min (repeats (pointwise eqb) 1 sorted) ≡ first_true 0 (along comes_again [] (map (λ cell. cell.corners) cells))
-twice_is = table_is 0 1 refl alone alone_pieces comes_again along_alone
+    → reduce min (repeats (pointwise eqb) 1 sorted) ≡ first_true 0 (along repeats_earlier [] (map (λ cell. cell.corners) cells))
+twice_is = table_is 0 1 refl alone alone_pieces repeats_earlier along_alone
 
 -- the first that is the third with some face
 pub third_is : (cells : List RawCell) → AllByRecursion (λ cell. AreCorners cell.corners) cells → (rows sorted : List (Row (List ℕ)))

@@ -6,7 +6,7 @@ use Rattle.std.specs.Prelude.{pos}
 use Rattle.std.specs.List.{zip, slice_index}
 use Rattle.std.specs.Option.{option_map}
 use Rattle.std.proofs.lemmas.List.{length-map}
-use Rattle.liszt_base.specs.Corners.{along, comes_again, is_third}
+use Rattle.liszt_base.specs.Corners.{along, repeats_earlier, is_third}
 use Rattle.liszt_base.specs.declared.answers.MeshFault.{MeshFault}
 use Rattle.liszt_base.specs.declared.answers.MeshFile.TheVariants.{Ele}
 use Rattle.liszt_base.specs.declared.answers.MeshWhat.{MeshWhat}
@@ -57,12 +57,12 @@ pub first_whole_fault : (base : ℕ) (rows : List Row)
     → first (whole_tests base rows) ≡ option_map (misfit_fault rows) (first_misfit (map (λ row. row_corners base row.words) rows))
 first_whole_fault base rows =
     let cells : List (List ℕ) = map (λ (row : Row). row_corners base row.words) rows in
-    let twice : List Bool = along comes_again [] cells in
+    let twice : List Bool = along repeats_earlier [] cells in
     let third : List Bool = along is_third [] cells in
     let count : length cells ≡ length rows = length-map rows (λ (row : Row). row_corners base row.words) in
     let line = λ (place : ℕ). slice_index (map (λ (row : Row). row.line) rows) place in
     let at_line : (k : ℕ) → line (0 + k) ≡ get_or (map (λ row. row.line) rows) k 0 = λ k. ap line (omega arith) in
-    let one = cell_at CellTwice twice rows 0 line (along_length comes_again [] cells ∙ count) at_line in
+    let one = cell_at CellTwice twice rows 0 line (along_length repeats_earlier [] cells ∙ count) at_line in
     let two = cell_at FaceShared third rows 0 line (along_length is_third [] cells ∙ count) at_line in
     first_append (map (cell_fault CellTwice) (zip twice rows)) (map (cell_fault FaceShared) (zip third rows))
     ∙ ap (λ o. first (o ∷ first (map (cell_fault FaceShared) (zip third rows)) ∷ [])) one
@@ -82,9 +82,9 @@ true_inside start place (false ∷ tests) e = let more = true_inside (start + 1)
 pub misfit_inside : (cells : List (List ℕ)) (m : Misfit) → first_misfit cells ≡ Some m → m.place < length cells
 unfolding place_of
 misfit_inside cells m e =
-    let twice : List Bool = along comes_again [] cells in
+    let twice : List Bool = along repeats_earlier [] cells in
     let third : List Bool = along is_third [] cells in
-    go (first_true 0 twice) (first_true 0 third) (λ p h. omega (arith, true_inside 0 p twice h, along_length comes_again [] cells))
+    go (first_true 0 twice) (first_true 0 third) (λ p h. omega (arith, true_inside 0 p twice h, along_length repeats_earlier [] cells))
     (λ p h. omega (arith, true_inside 0 p third h, along_length is_third [] cells)) e
   where
     go : (x y : Option ℕ) → ((p : ℕ) → x ≡ Some p → p < length cells) → ((p : ℕ) → y ≡ Some p → p < length cells)

@@ -3,7 +3,7 @@ use Rattle.std.proofs.Common.{◌≡◌, ℕ, suc, ◌+◌, Bool, true, false, O
 use Rattle.std.proofs.Common.{refl, sym, ap, subst, ◌∙◌, arith}
 use Rattle.std.specs.List.{list_any, zip, AllByRecursion}
 use Rattle.std.proofs.lemmas.List.{length-map}
-use Rattle.liszt_base.specs.Corners.{along, comes_again, is_third, FitTogether, IsCell, IsMesh}
+use Rattle.liszt_base.specs.Corners.{along, repeats_earlier, is_third, FitTogether, IsCell, IsMesh}
 use Rattle.liszt_base.specs.declared.answers.MeshFault.{MeshFault}
 use Rattle.liszt_base.specs.declared.answers.MeshWhat.{MeshWhat}
 use Rattle.liszt_base.specs.declared.answers.MeshWhat.TheVariants.{CellTwice, FaceShared}
@@ -53,17 +53,17 @@ CellCorners cells = map (λ cell. cell.corners) cells
 pub whole_takes : (base : ℕ) (rows : List Row) → FindNone (whole_tests base rows) → FitTogether (CornersOf base rows)
 whole_takes base rows h =
     let cells : List (List ℕ) = CornersOf base rows in
-    let twice : List Bool = along comes_again [] cells in
+    let twice : List Bool = along repeats_earlier [] cells in
     let third : List Bool = along is_third [] cells in
     let parts = append_none (map (cell_fault CellTwice) (zip twice rows)) (map (cell_fault FaceShared) (zip third rows)) h in
     let count : length cells ≡ length rows = length-map rows (λ (row : Row). row_corners base row.words) in
-    let twice_count = along_length comes_again [] cells ∙ count in
+    let twice_count = along_length repeats_earlier [] cells ∙ count in
     let third_count = along_length is_third [] cells ∙ count in
     (faults_take CellTwice twice rows twice_count parts.0, faults_take FaceShared third rows third_count parts.1)
 
 pub whole_again : (base : ℕ) (rows : List Row) → FitTogether (CornersOf base rows) → FindNone (whole_tests base rows)
 whole_again base rows h =
-    let twice : List Bool = along comes_again [] (CornersOf base rows) in
+    let twice : List Bool = along repeats_earlier [] (CornersOf base rows) in
     let third : List Bool = along is_third [] (CornersOf base rows) in
     none_append (map (cell_fault CellTwice) (zip twice rows)) (map (cell_fault FaceShared) (zip third rows))
     (faults_again CellTwice twice rows h.0) (faults_again FaceShared third rows h.1)

@@ -2,7 +2,7 @@
 use Rattle.std.specs.Prelude.{ℕ, ◌+◌, ◌-◌, nat_le, if◌then◌else◌, Bool, false, Option, Some, None, List, [], ◌∷◌, ◌++◌, map, take, drop, length, ℤ, pos, nat_abs, Result, Ok, Err, replicate, slice_index_or}
 use Rattle.std.specs.List.{zip, enumerate_from}
 use Rattle.std.specs.Option.{option_map}
-use Rattle.liszt_base.specs.Corners.{are_different, along, comes_again, is_third}
+use Rattle.liszt_base.specs.Corners.{are_different, along, repeats_earlier, is_third}
 use Rattle.liszt_base.specs.declared.answers.MeshFault.{MeshFault}
 use Rattle.liszt_base.specs.declared.answers.MeshFile.{MeshFile}
 use Rattle.liszt_base.specs.declared.answers.MeshFile.TheVariants.{Node, Ele}
@@ -102,7 +102,7 @@ cell_fault what cell = if cell.0 then Some (fault_at Ele (pos 0) cell.1.line wha
 abbrev pub whole_tests : ℕ → List Row → List (Option MeshFault)
 whole_tests base rows =
     let cells : List (List ℕ) = map (λ row. row_corners base row.words) rows in
-    map (cell_fault CellTwice) (zip (along comes_again [] cells) rows) ++ map (cell_fault FaceShared) (zip (along is_third [] cells) rows)
+    map (cell_fault CellTwice) (zip (along repeats_earlier [] cells) rows) ++ map (cell_fault FaceShared) (zip (along is_third [] cells) rows)
 
 -- the ele file, then the whole mesh
 abbrev pub cells_fault : ℕ → ℕ → TextRows → Option MeshFault

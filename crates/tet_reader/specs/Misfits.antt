@@ -1,7 +1,7 @@
 -- The first cell that no mesh may have. This project's own.
 use Rattle.std.specs.Prelude.{ℕ, ◌+◌, Bool, true, false, Option, Some, None, List, [], ◌∷◌}
 use Rattle.std.specs.Option.{option_map}
-use Rattle.liszt_base.specs.Corners.{along, comes_again, is_third}
+use Rattle.liszt_base.specs.Corners.{along, repeats_earlier, is_third}
 use Rattle.liszt_base.specs.declared.answers.MeshWhat.{MeshWhat}
 use Rattle.liszt_base.specs.declared.answers.MeshWhat.TheVariants.{CellTwice, FaceShared}
 use Rattle.tet_reader.specs.Tests.{first}
@@ -21,5 +21,5 @@ misfit what place = record { place = place; what = what }
 -- with some face.
 abbrev pub first_misfit : List (List ℕ) → Option Misfit
 first_misfit cells = first
-    (option_map (misfit CellTwice) (first_true 0 (along comes_again [] cells))
+    (option_map (misfit CellTwice) (first_true 0 (along repeats_earlier [] cells))
     ∷ option_map (misfit FaceShared) (first_true 0 (along is_third [] cells)) ∷ [])

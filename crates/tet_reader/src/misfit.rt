@@ -1,6 +1,6 @@
 ghost use Rattle.std.specs.Prelude.{◌≡◌, ◌<◌, ◌^◌, [], true, IfOk, length, map, min};
 ghost use Rattle.std.specs.List.{AllByRecursion, AllZip, reduce};
-ghost use Rattle.liszt_base.specs.Corners.{are_different, induced_cycles, along, comes_again, is_third};
+ghost use Rattle.liszt_base.specs.Corners.{are_different, induced_cycles, along, repeats_earlier, is_third};
 ghost use Rattle.tet_reader.specs.Misfits.{first_true, first_misfit};
 ghost use Rattle.tet_reader.specs.Repeats.{repeats, placed, alone, IsRow};
 
@@ -82,7 +82,7 @@ fn least_repeat<K: Ord>(rows: &[Row<K>], back: usize) -> Option<u32>
 fn first_twice(alloc: Global, cells: &[RawCell]) -> Result<Option<u32>, NoMemory>
     requires few { length cells.now < 2 ^ 32 }
     requires corners { AllByRecursion (λ cell. (length cell.corners ≡ 4) × (are_different cell.corners ≡ true)) cells.now }
-    ensures { IfOk result (λ place. place ≡ first_true 0 (along comes_again [] (map (λ cell. cell.corners) cells.now))) }
+    ensures { IfOk result (λ place. place ≡ first_true 0 (along repeats_earlier [] (map (λ cell. cell.corners) cells.now))) }
 {
     let mut rows = cell_rows(alloc, cells)?;
     rows.sort_unstable();

@@ -1,6 +1,6 @@
 use Rattle.std.specs.Char.{is_ascii_digit}
-use Rattle.text_scan.proofs.Places.{front_passes, first_is}
-use Rattle.text_scan.proofs.numbers.first_places.Goals as goal
+use Rattle.text_scan.proofs.DecimalPlaces.{front_passes, first_is}
+use Rattle.text_scan.proofs.numbers.leading_value.Goals as goal
 
 pub number_after-requires-clause-digits : goal.number_after-requires-clause-digits
 number_after-requires-clause-digits c = front_passes is_ascii_digit c.min.result c.args.whole.now c.requires.whole

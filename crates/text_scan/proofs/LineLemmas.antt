@@ -3,10 +3,10 @@ use Rattle.std.proofs.Common.{◌≡◌, ℕ, ◌+◌, ◌<◌, ◌≤◌, ◌�
 use Rattle.std.specs.List.{slice_split, before_first, after_first, enumerate_from, filter}
 use Rattle.std.proofs.lemmas.List.{length-drop, take_all, drop_all}
 use Rattle.std.proofs.lemmas.List.Splits.{slice_split_first}
-use Rattle.text_scan.specs.Rows.{is_line_feed, less_empty_last, lines, words, Row, row_of, has_words, TextRows, text_rows}
-use Rattle.text_scan.specs.Tables.{OpenRows}
-use Rattle.text_scan.proofs.Splits.{HasFirst, first_part}
-use Rattle.text_scan.proofs.WordSteps.{place_of, place_here, place_further}
+use Rattle.text_scan.specs.Rows.{is_line_feed, without_empty_last, lines, words, Row, row_of, has_words, TextRows, text_rows}
+use Rattle.text_scan.specs.Internal.OpenRows.{OpenRows}
+use Rattle.text_scan.proofs.SplitLemmas.{HasFirst, first_part}
+use Rattle.text_scan.proofs.WordLemmas.{place_of, place_here, place_further}
 
 -- a text without LF is one part
 one_part : (p : ℕ → Bool) (xs : List ℕ) → length xs ≤ place_of p xs → slice_split p xs ≡ xs ∷ []
@@ -20,32 +20,32 @@ one_part p (x ∷ xs) le = go (p x) refl (λ h. one_part p xs h)
         let more : slice_split p xs ≡ xs ∷ [] = h (omega (arith, at)) in
         rw (is, more) refl
 
--- an empty last part is dropped behind another alone
-less_behind : (part : List ℕ) (parts : List (List ℕ)) → HasFirst parts → less_empty_last (part ∷ parts) ≡ part ∷ less_empty_last parts
-less_behind [] parts h = rw h.2 refl
-less_behind (b ∷ part) parts h = refl
+-- an empty last part is length_without_sign behind another alone
+last_part_after : (part : List ℕ) (parts : List (List ℕ)) → HasFirst parts → without_empty_last (part ∷ parts) ≡ part ∷ without_empty_last parts
+last_part_after [] parts h = rw h.2 refl
+last_part_after (b ∷ part) parts h = refl
 
-less_alone : (part : List ℕ) → 0 < length part → less_empty_last (part ∷ []) ≡ part ∷ []
-less_alone [] some = absurd (omega arith)
-less_alone (b ∷ part) some = refl
+last_part_only : (part : List ℕ) → 0 < length part → without_empty_last (part ∷ []) ≡ part ∷ []
+last_part_only [] some = absurd (omega arith)
+last_part_only (b ∷ part) some = refl
 
-le_or_less : (m n : ℕ) → (m ≤ n) ⊎ (n < m)
-le_or_less m n = grind arith
+le_or_lt : (m n : ℕ) → (m ≤ n) ⊎ (n < m)
+le_or_lt m n = grind arith
 
 -- the lines of a text that isn't empty
 lines_step : (text : List ℕ) → 0 < length text → lines text ≡ before_first is_line_feed text ∷ lines (after_first is_line_feed text)
-lines_step text some = go (le_or_less (length text) (place_of is_line_feed text))
+lines_step text some = go (le_or_lt (length text) (place_of is_line_feed text))
   where
     go : (length text ≤ place_of is_line_feed text) ⊎ (place_of is_line_feed text < length text)
         → lines text ≡ before_first is_line_feed text ∷ lines (after_first is_line_feed text)
     go (inl none) =
         let all : before_first is_line_feed text ≡ text = take_all (place_of is_line_feed text) text none in
         let rest : after_first is_line_feed text ≡ [] = drop_all (place_of is_line_feed text + 1) text (omega arith) in
-        ap less_empty_last (one_part is_line_feed text none) ∙ (less_alone text some ∙ cc (all, rest))
+        ap without_empty_last (one_part is_line_feed text none) ∙ (last_part_only text some ∙ cc (all, rest))
     go (inr here) =
         let split = slice_split_first is_line_feed text 0 here in
-        ap less_empty_last split
-        ∙ less_behind (before_first is_line_feed text) (slice_split is_line_feed (after_first is_line_feed text))
+        ap without_empty_last split
+        ∙ last_part_after (before_first is_line_feed text) (slice_split is_line_feed (after_first is_line_feed text))
         (first_part is_line_feed (after_first is_line_feed text))
 
 -- what is left is shorter

@@ -13,12 +13,12 @@ use mir.Val.{SFits}
 use Rattle.text_scan.specs.declared.faults.NumberFault.{NumberFault}
 use Rattle.text_scan.specs.declared.faults.NumberFault.TheVariants.{BadNumber, CoordRange}
 use Rattle.text_scan.specs.Numbers.{is_numeral, is_whole, whole_of, is_coordinate, magnitude, millionths_of}
-use Rattle.text_scan.proofs.Meaning.{all_digits}
+use Rattle.text_scan.proofs.MeaningLemmas.{all_digits}
 
 -- a number below 10^18 with a sign
-signed_fits : (minus : Bool) (n : ℕ) → n < 10 ^ 18 → SFits w64 (cond minus (neg_ℤ (pos n)) (pos n))
-signed_fits true n small = omega (arith, ints)
-signed_fits false n small = omega (arith, ints)
+with_sign_fits : (minus : Bool) (n : ℕ) → n < 10 ^ 18 → SFits w64 (cond minus (neg_ℤ (pos n)) (pos n))
+with_sign_fits true n small = omega (arith, ints)
+with_sign_fits false n small = omega (arith, ints)
 
 -- a choice gave a value
 chose : {A : Type 0} (b : Bool) (x : A) (fault : NumberFault) (y : A) → ◌≡◌ {A = Result A NumberFault} (cond b (Ok x) (Err fault)) (Ok y)
@@ -35,7 +35,7 @@ whole_fits text z e =
     let digits = (and_parts _ (list_all is_ascii_digit ds) parts.0).1 in
     let below : digits_value 10 ds < 10 ^ length ds = digits_value-lt 10 ds (all_digits ds digits) in
     let most : 10 ^ length ds ≤ 10 ^ 18 = pow-le-pow_right {n = 10} (omega arith) {i = length ds} {j = 18} few in
-    subst (SFits w64) c.1 (signed_fits (starts_with_minus text) (digits_value 10 ds) (omega arith))
+    subst (SFits w64) c.1 (with_sign_fits (starts_with_minus text) (digits_value 10 ds) (omega arith))
 
 pub millionths_fits : (text : List ℕ) (z : ℤ) → millionths_of text ≡ Ok z → SFits w64 z
 millionths_fits text z e = go (is_coordinate text) e
@@ -45,5 +45,5 @@ millionths_fits text z e = go (is_coordinate text) e
     go true e =
         let c = chose (nat_le (magnitude text) (10 ^ 15)) _ _ z e in
         let few = leb-true (magnitude text) (10 ^ 15) c.0 in
-        subst (SFits w64) c.1 (signed_fits (starts_with_minus text) (magnitude text) (omega arith))
+        subst (SFits w64) c.1 (with_sign_fits (starts_with_minus text) (magnitude text) (omega arith))
     go false e = cc

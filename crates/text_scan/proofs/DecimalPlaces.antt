@@ -9,7 +9,7 @@ use Rattle.std.proofs.lemmas.Bool.{and_parts}
 use Rattle.std.proofs.lemmas.Bool.Decides.{nat_tests}
 use Rattle.std.proofs.lemmas.Int.Digits.{digits_value-lt}
 use Rattle.std.proofs.lemmas.List.{length-take, length-drop, length-append, take-append-drop, take_all, take_min}
-use Rattle.text_scan.proofs.Cuts.{ten-pos}
+use Rattle.text_scan.proofs.Truncations.{ten-pos}
 
 le_or_more : (m n : ℕ) → (m ≤ n) ⊎ (n < m)
 le_or_more m n = grind arith
@@ -20,21 +20,21 @@ le_or_more m n = grind arith
 pub digit_byte : (b : ℕ) → is_ascii_digit b ≡ true → (48 ≤ b) × (b ≤ 57) × (digit_value b ≡ b - 48)
 digit_byte b h = grind (arith, nat_tests)
 
-held_step : (n d : ℕ) → min (min n (10 ^ 18) * 10 + d) (10 ^ 18) ≡ min (n * 10 + d) (10 ^ 18)
-held_step n d = omega arith
+capped_step : (n d : ℕ) → min (min n (10 ^ 18) * 10 + d) (10 ^ 18) ≡ min (n * 10 + d) (10 ^ 18)
+capped_step n d = omega arith
 
 -- what was held down on the way makes no difference
 pub held : (n : ℕ) (ds : List ℕ) → min (digits_value_after 10 (min n (10 ^ 18)) ds) (10 ^ 18) ≡ min (digits_value_after 10 n ds) (10 ^ 18)
 held n [] = omega arith
 held n (d ∷ ds) =
     sym (held (min n (10 ^ 18) * 10 + digit_value d) ds)
-    ∙ ap (λ m. min (digits_value_after 10 m ds) (10 ^ 18)) (held_step n (digit_value d))
+    ∙ ap (λ m. min (digits_value_after 10 m ds) (10 ^ 18)) (capped_step n (digit_value d))
     ∙ held (n * 10 + digit_value d) ds
 
 -- one digit more
-pub held_more : (n d : ℕ) (ds : List ℕ) → is_ascii_digit d ≡ true
+pub capped_more : (n d : ℕ) (ds : List ℕ) → is_ascii_digit d ≡ true
     → min (digits_value_after 10 (min (n * 10 + (d - 48)) (10 ^ 18)) ds) (10 ^ 18) ≡ min (digits_value_after 10 n (d ∷ ds)) (10 ^ 18)
-held_more n d ds h =
+capped_more n d ds h =
     held (n * 10 + (d - 48)) ds ∙ ap (λ v. min (digits_value_after 10 (n * 10 + v) ds) (10 ^ 18)) (sym (digit_byte d h).2)
 
 -- digits in two parts
@@ -110,8 +110,8 @@ divided ds up down is = go (le_or_more down up) where
       let n = length ds + up - down in
       let k = n - length ds in
       let all : take n ds ≡ ds = take_all n ds (omega arith) in
-      let raised : 10 ^ up ≡ 10 ^ k * 10 ^ down = ap (λ m. 10 ^ m) (omega arith) ∙ pow-add 10 k down in
-      let product = ap (λ p. digits_value 10 ds * p) raised in
+      let positive_exponent : 10 ^ up ≡ 10 ^ k * 10 ^ down = ap (λ m. 10 ^ m) (omega arith) ∙ pow-add 10 k down in
+      let product = ap (λ p. digits_value 10 ds * p) positive_exponent in
       let value : digits_value 10 (take n ds) * 10 ^ k ≡ digits_value 10 ds * 10 ^ k = ap (λ l. digits_value 10 l * 10 ^ k) all in
       div-eq_of_lt-le {k = digits_value 10 ds * 10 ^ k} (10 ^ down) (omega arith) (omega (arith, ten-pos down)) ∙ sym value
   go (inr many) =
@@ -143,9 +143,9 @@ front_of_two (suc n) (x ∷ xs) ys =
     ap (λ l. x ∷ l) (front_of_two n xs ys ∙ ap (λ k. take n xs ++ take k ys) (sym less))
 
 -- a product of a number that is held and a factor that is
-pub held_product : (n p : ℕ) → 1 ≤ p
+pub capped_product : (n p : ℕ) → 1 ≤ p
     → min (min (min n (10 ^ 18) * min p (2 ^ 64 - 1)) (2 ^ 64 - 1)) (10 ^ 18) ≡ min (n * p) (10 ^ 18)
-held_product n p some = go (le_or_more n 0) (le_or_more n (10 ^ 18)) (le_or_more p (2 ^ 64 - 1)) where
+capped_product n p some = go (le_or_more n 0) (le_or_more n (10 ^ 18)) (le_or_more p (2 ^ 64 - 1)) where
   go : (n ≤ 0) ⊎ (0 < n) → (n ≤ 10 ^ 18) ⊎ (10 ^ 18 < n) → (p ≤ 2 ^ 64 - 1) ⊎ (2 ^ 64 - 1 < p)
       → min (min (min n (10 ^ 18) * min p (2 ^ 64 - 1)) (2 ^ 64 - 1)) (10 ^ 18) ≡ min (n * p) (10 ^ 18)
   go (inl no_more) _ _ =
@@ -184,4 +184,4 @@ first_is n xs ys i j first both i_is j_is first_held both_held =
     ∙ ap (λ l. min (digits_value_after 10 (digits_value 10 l) (take j ys)) (10 ^ 18)) front
     ∙ ap (λ l. min (digits_value_after 10 (digits_value 10 (take n xs)) l) (10 ^ 18)) back
     ∙ ap (λ m. min m (10 ^ 18)) (sym (in_parts 0 (take n xs) (take (n - length xs) ys)) ∙ ap (digits_value 10) joined) in
-    rw (zeros, held_both) (held_product (digits_value 10 (take n (xs ++ ys))) (10 ^ (n - length (xs ++ ys))) (ten-pos (n - length (xs ++ ys))))
+    rw (zeros, held_both) (capped_product (digits_value 10 (take n (xs ++ ys))) (10 ^ (n - length (xs ++ ys))) (ten-pos (n - length (xs ++ ys))))

@@ -8,11 +8,11 @@ use Rattle.std.specs.Str.Lines.{strip_carriage_return}
 use Rattle.std.proofs.lemmas.Bool.Decides.{nat_tests}
 use Rattle.std.proofs.lemmas.List.{map-append, length-append, length-map}
 use Rattle.std.proofs.lemmas.List.Elements.{filter-append}
-use Rattle.text_scan.specs.Rows.{is_line_feed, is_hash, is_blank, less_empty_last, lines, is_some_word}
+use Rattle.text_scan.specs.Rows.{is_line_feed, is_hash, is_blank, without_empty_last, lines, is_nonempty}
 use Rattle.text_scan.specs.Rows.{words, Row, row_of, has_words, TextRows, text_rows}
-use Rattle.text_scan.specs.Rows.{with_returns, EndInNoReturn, EndsLine, IsWord, IsRowUpTo, row_words}
-use Rattle.text_scan.proofs.Splits.{HasFirst, first_part, split_append, NonePass, NoneOfAny, parts_keep, parts_none, one_part}
-use Rattle.text_scan.proofs.Splits.{none_append, none_take, before_keeps, none_before, before_append}
+use Rattle.text_scan.specs.Rows.{with_carriage_returns, EndWithoutCarriageReturn, IsWholeLines, IsWord, IsRowUpTo, row_words}
+use Rattle.text_scan.proofs.SplitLemmas.{HasFirst, first_part, split_append, NonePass, NoneOfAny, parts_keep, parts_none, one_part}
+use Rattle.text_scan.proofs.SplitLemmas.{none_append, none_take, before_keeps, none_before, before_append}
 
 -- the rows of lines from a number on
 abbrev rows_from : ℕ → List (List ℕ) → List Row
@@ -25,7 +25,7 @@ words_of ls = filter (λ ws. nat_lt 0 (length ws)) (map words ls)
 -- ROWS HOLD WORDS
 
 -- what has a length is not empty
-some_bytes : (word : List ℕ) → is_some_word word ≡ true → word ≢ []
+some_bytes : (word : List ℕ) → is_nonempty word ≡ true → word ≢ []
 some_bytes [] is = cc
 some_bytes (b ∷ word) is = λ e. cc
 
@@ -35,11 +35,11 @@ some_words (w ∷ ws) is = λ e. cc
 
 -- parts without blanks, `#` and LF are words, where they aren't empty
 parts_words : (parts : List (List ℕ)) → NoneOfAny is_blank parts → NoneOfAny is_hash parts → NoneOfAny is_line_feed parts
-    → AllByRecursion IsWord (filter is_some_word parts)
+    → AllByRecursion IsWord (filter is_nonempty parts)
 parts_words [] a b c = tt
-parts_words (part ∷ parts) a b c = go (is_some_word part) refl (parts_words parts a.1 b.1 c.1) where
-  go : (some : Bool) → is_some_word part ≡ some → AllByRecursion IsWord (filter is_some_word parts)
-      → AllByRecursion IsWord (cond some (part ∷ filter is_some_word parts) (filter is_some_word parts))
+parts_words (part ∷ parts) a b c = go (is_nonempty part) refl (parts_words parts a.1 b.1 c.1) where
+  go : (some : Bool) → is_nonempty part ≡ some → AllByRecursion IsWord (filter is_nonempty parts)
+      → AllByRecursion IsWord (cond some (part ∷ filter is_nonempty parts) (filter is_nonempty parts))
   go true is more = ((some_bytes part is, a.0, b.0, c.0), more)
   go false is more = more
 
@@ -59,7 +59,7 @@ line_words line h =
     (parts_keep is_blank is_line_feed shown feed)
 
 -- lines are parts
-less_keeps : (q : ℕ → Bool) (parts : List (List ℕ)) → NoneOfAny q parts → NoneOfAny q (less_empty_last parts)
+less_keeps : (q : ℕ → Bool) (parts : List (List ℕ)) → NoneOfAny q parts → NoneOfAny q (without_empty_last parts)
 less_keeps q [] h = tt
 less_keeps q ([] ∷ []) h = tt
 less_keeps q ([] ∷ part ∷ parts) h = (h.0, less_keeps q (part ∷ parts) h.1)
@@ -76,8 +76,8 @@ rows_hold last n (l ∷ ls) least room h =
       go true is more = ((least, omega arith, some_words (words l) is, line_words l h.0), more)
       go false is more = more
 
-pub rows_hold_words : (bytes : List ℕ) → AllByRecursion (IsRowUpTo (text_rows bytes).last_line) (text_rows bytes).rows
-rows_hold_words bytes =
+pub rows_have_words : (bytes : List ℕ) → AllByRecursion (IsRowUpTo (text_rows bytes).last_line) (text_rows bytes).rows
+rows_have_words bytes =
     let clean = less_keeps is_line_feed (slice_split is_line_feed bytes) (parts_none is_line_feed bytes) in
     rows_hold (length (lines bytes)) 1 (lines bytes) (omega arith) (omega arith) clean
 
@@ -124,7 +124,7 @@ words_are n (l ∷ ls) = go (nat_lt 0 (length (words l))) (words_are (n + 1) ls)
   go false e = e
 
 -- an empty last part is the last one of the parts at the back
-less_append : (xs : List (List ℕ)) (y : List ℕ) (ys : List (List ℕ)) → less_empty_last (xs ++ y ∷ ys) ≡ xs ++ less_empty_last (y ∷ ys)
+less_append : (xs : List (List ℕ)) (y : List ℕ) (ys : List (List ℕ)) → without_empty_last (xs ++ y ∷ ys) ≡ xs ++ without_empty_last (y ∷ ys)
 less_append [] y ys = refl
 less_append ([] ∷ []) y ys = refl
 less_append ([] ∷ x ∷ xs) y ys = ap (λ l. [] ∷ l) (less_append (x ∷ xs) y ys)
@@ -134,9 +134,9 @@ less_append ((b ∷ bs) ∷ xs) y ys = ap (λ l. (b ∷ bs) ∷ l) (less_append 
 lines_append : (front back : List ℕ) → lines (front ++ 10 ∷ back) ≡ slice_split is_line_feed front ++ lines back
 lines_append front back =
     let f = first_part is_line_feed back in
-    ap less_empty_last (split_append is_line_feed front 10 back refl) ∙ rw f.2 (less_append (slice_split is_line_feed front) f.0 f.1)
+    ap without_empty_last (split_append is_line_feed front 10 back refl) ∙ rw f.2 (less_append (slice_split is_line_feed front) f.0 f.1)
 
--- a byte at the front stays when a CR at the end is taken off
+-- a byte at the front stays when a CR at the end is length_take_le off
 abbrev strip_at : ℕ → List ℕ → List ℕ
 strip_at k line = cond (slice_index line k == 13) (take k line) line
 
@@ -165,7 +165,7 @@ comment_stays (b ∷ blanks) comment =
     (more.0, strip_cons b (blanks ++ 35 ∷ comment) (not_empty blanks 35 comment) ∙ ap (λ l. b ∷ l) more.1)
 
 -- blanks hold no word, no `#` and no LF
-no_words : (blanks : List ℕ) → list_all is_blank blanks ≡ true → filter is_some_word (slice_split is_blank blanks) ≡ []
+no_words : (blanks : List ℕ) → list_all is_blank blanks ≡ true → filter is_nonempty (slice_split is_blank blanks) ≡ []
 no_words [] h = refl
 no_words (b ∷ blanks) h =
     let two = and_parts (is_blank b) (list_all is_blank blanks) h in
@@ -189,7 +189,7 @@ comment_words blanks comment h =
     let c = comment_stays blanks comment in
     let shown : before_first is_hash (strip_carriage_return (blanks ++ 35 ∷ comment)) ≡ blanks =
     rw c.1 (before_append is_hash blanks 35 c.0 (none_of_blanks is_hash no_hash blanks h) refl) in
-    ap (λ l. filter is_some_word (slice_split is_blank l)) shown ∙ no_words blanks h
+    ap (λ l. filter is_nonempty (slice_split is_blank l)) shown ∙ no_words blanks h
 
 -- a comment in front of lines
 comment_line : (blanks comment back : List ℕ) → list_all is_blank blanks ≡ true → NonePass is_line_feed comment
@@ -214,21 +214,21 @@ front_lines text back =
     let some = λ (ws : List (List ℕ)). nat_lt 0 (length ws) in
     ap words_of whole ∙ ap (filter some) mapped ∙ filter-append some (map words parts) (map words (lines back))
 
-behind_front : (front one two : List ℕ) → EndsLine front → words_of (lines one) ≡ words_of (lines two)
+after_front_lines : (front one two : List ℕ) → IsWholeLines front → words_of (lines one) ≡ words_of (lines two)
     → words_of (lines (front ++ one)) ≡ words_of (lines (front ++ two))
-behind_front front one two (inl e) same = subst (λ f. words_of (lines (f ++ one)) ≡ words_of (lines (f ++ two))) (sym e) same
-behind_front front one two (inr ends) same =
+after_front_lines front one two (inl e) same = subst (λ f. words_of (lines (f ++ one)) ≡ words_of (lines (f ++ two))) (sym e) same
+after_front_lines front one two (inr ends) same =
     let parts = slice_split is_line_feed ends.0 in
     subst (λ f. words_of (lines (f ++ one)) ≡ words_of (lines (f ++ two))) (sym ends.1)
     (front_lines ends.0 one ∙ ap (λ w. words_of parts ++ w) same ∙ sym (front_lines ends.0 two))
 
-pub comments_add_nothing : (front blanks comment back : List ℕ) → EndsLine front → list_all is_blank blanks ≡ true
+pub comments_add_no_rows : (front blanks comment back : List ℕ) → IsWholeLines front → list_all is_blank blanks ≡ true
     → list_any is_line_feed comment ≡ false → row_words (front ++ blanks ++ 35 ∷ comment ++ 10 ∷ back) ≡ row_words (front ++ back)
-comments_add_nothing front blanks comment back ends h out =
+comments_add_no_rows front blanks comment back ends h out =
     let one = blanks ++ 35 ∷ comment ++ 10 ∷ back in
     let whole : front ++ blanks ++ 35 ∷ comment ++ 10 ∷ back ≡ front ++ one =
     ap (λ l. l ++ 10 ∷ back) (append_assoc front blanks (35 ∷ comment)) ∙ append_assoc front (blanks ++ 35 ∷ comment) (10 ∷ back) in
-    let same = behind_front front one back ends (comment_line blanks comment back h out) in
+    let same = after_front_lines front one back ends (comment_line blanks comment back h out) in
     ap row_words whole ∙ words_are 1 (lines (front ++ one)) ∙ same ∙ sym (words_are 1 (lines (front ++ back)))
 
 -- RETURNS CHANGE NOTHING
@@ -253,26 +253,26 @@ text_rows_are bytes =
     (sym (length-map (lines bytes) words))
 
 -- the parts with a CR at the end of each that an LF follows
-abbrev returned : List (List ℕ) → List (List ℕ)
-returned [] = []
-returned (part ∷ []) = part ∷ []
-returned (part ∷ next ∷ parts) = (part ++ 13 ∷ []) ∷ returned (next ∷ parts)
+abbrev with_return : List (List ℕ) → List (List ℕ)
+with_return [] = []
+with_return (part ∷ []) = part ∷ []
+with_return (part ∷ next ∷ parts) = (part ++ 13 ∷ []) ∷ with_return (next ∷ parts)
 
-returned_onto : (b : ℕ) (part : List ℕ) (parts : List (List ℕ)) → onto_first b (returned (part ∷ parts)) ≡ returned ((b ∷ part) ∷ parts)
-returned_onto b part [] = refl
-returned_onto b part (next ∷ parts) = refl
+with_return_onto : (b : ℕ) (part : List ℕ) (parts : List (List ℕ)) → onto_first b (with_return (part ∷ parts)) ≡ with_return ((b ∷ part) ∷ parts)
+with_return_onto b part [] = refl
+with_return_onto b part (next ∷ parts) = refl
 
 -- a CR before each LF is such a CR
-split_returned : (bytes : List ℕ) → slice_split is_line_feed (with_returns bytes) ≡ returned (slice_split is_line_feed bytes)
-split_returned [] = refl
-split_returned (b ∷ bytes) = go (is_line_feed b) refl (first_part is_line_feed bytes) (split_returned bytes) where
+split_with_returns : (bytes : List ℕ) → slice_split is_line_feed (with_carriage_returns bytes) ≡ with_return (slice_split is_line_feed bytes)
+split_with_returns [] = refl
+split_with_returns (b ∷ bytes) = go (is_line_feed b) refl (first_part is_line_feed bytes) (split_with_returns bytes) where
   go : (lf : Bool) → is_line_feed b ≡ lf → HasFirst (slice_split is_line_feed bytes)
-      → slice_split is_line_feed (with_returns bytes) ≡ returned (slice_split is_line_feed bytes)
-      → slice_split is_line_feed (cond lf (13 ∷ 10 ∷ []) (b ∷ []) ++ with_returns bytes)
-      ≡ returned (cond lf ([] ∷ slice_split is_line_feed bytes) (onto_first b (slice_split is_line_feed bytes)))
-  go true is f same = ap (λ l. (13 ∷ []) ∷ l) (same ∙ ap returned f.2) ∙ ap (λ l. returned ([] ∷ l)) (sym f.2)
+      → slice_split is_line_feed (with_carriage_returns bytes) ≡ with_return (slice_split is_line_feed bytes)
+      → slice_split is_line_feed (cond lf (13 ∷ 10 ∷ []) (b ∷ []) ++ with_carriage_returns bytes)
+      ≡ with_return (cond lf ([] ∷ slice_split is_line_feed bytes) (onto_first b (slice_split is_line_feed bytes)))
+  go true is f same = ap (λ l. (13 ∷ []) ∷ l) (same ∙ ap with_return f.2) ∙ ap (λ l. with_return ([] ∷ l)) (sym f.2)
   go false is f same =
-      let joined = ap (onto_first b) (same ∙ ap returned f.2) ∙ returned_onto b f.0 f.1 ∙ ap (λ l. returned (onto_first b l)) (sym f.2) in
+      let joined = ap (onto_first b) (same ∙ ap with_return f.2) ∙ with_return_onto b f.0 f.1 ∙ ap (λ l. with_return (onto_first b l)) (sym f.2) in
       rw is joined
 
 -- a CR at the end of a line that ends in none changes no word
@@ -280,32 +280,32 @@ strip_return : (line : List ℕ) → strip_carriage_return (line ++ 13 ∷ []) �
 strip_return [] = refl
 strip_return (b ∷ line) = strip_cons b (line ++ 13 ∷ []) (not_empty line 13 []) ∙ ap (λ l. b ∷ l) (strip_return line)
 
-returned_words : (line : List ℕ) → strip_carriage_return line ≡ line → words (line ++ 13 ∷ []) ≡ words line
-returned_words line e = ap (λ l. filter is_some_word (slice_split is_blank (before_first is_hash l))) (strip_return line ∙ sym e)
+with_return_words : (line : List ℕ) → strip_carriage_return line ≡ line → words (line ++ 13 ∷ []) ≡ words line
+with_return_words line e = ap (λ l. filter is_nonempty (slice_split is_blank (before_first is_hash l))) (strip_return line ∙ sym e)
 
 -- lines with such a CR have the same words
-less_more : (part next : List ℕ) (parts : List (List ℕ)) → less_empty_last (part ∷ next ∷ parts) ≡ part ∷ less_empty_last (next ∷ parts)
-less_more [] next parts = refl
-less_more (b ∷ part) next parts = refl
+last_part_more : (part next : List ℕ) (parts : List (List ℕ)) → without_empty_last (part ∷ next ∷ parts) ≡ part ∷ without_empty_last (next ∷ parts)
+last_part_more [] next parts = refl
+last_part_more (b ∷ part) next parts = refl
 
-less_return : (part : List ℕ) (parts : List (List ℕ))
-    → less_empty_last ((part ++ 13 ∷ []) ∷ parts) ≡ (part ++ 13 ∷ []) ∷ less_empty_last parts
-less_return [] parts = refl
-less_return (b ∷ part) parts = refl
+last_part_return : (part : List ℕ) (parts : List (List ℕ))
+    → without_empty_last ((part ++ 13 ∷ []) ∷ parts) ≡ (part ++ 13 ∷ []) ∷ without_empty_last parts
+last_part_return [] parts = refl
+last_part_return (b ∷ part) parts = refl
 
-same_words : (parts : List (List ℕ)) → EndInNoReturn (less_empty_last parts)
-    → map words (less_empty_last (returned parts)) ≡ map words (less_empty_last parts)
+same_words : (parts : List (List ℕ)) → EndWithoutCarriageReturn (without_empty_last parts)
+    → map words (without_empty_last (with_return parts)) ≡ map words (without_empty_last parts)
 same_words [] h = refl
 same_words (part ∷ []) h = refl
 same_words (part ∷ next ∷ parts) h =
-    let ends = subst EndInNoReturn (less_more part next parts) h in
-    ap (map words) (less_return part (returned (next ∷ parts)))
-    ∙ ap (λ w. w ∷ map words (less_empty_last (returned (next ∷ parts)))) (returned_words part ends.0)
+    let ends = subst EndWithoutCarriageReturn (last_part_more part next parts) h in
+    ap (map words) (last_part_return part (with_return (next ∷ parts)))
+    ∙ ap (λ w. w ∷ map words (without_empty_last (with_return (next ∷ parts)))) (with_return_words part ends.0)
     ∙ ap (λ ws. words part ∷ ws) (same_words (next ∷ parts) ends.1)
-    ∙ sym (ap (map words) (less_more part next parts))
+    ∙ sym (ap (map words) (last_part_more part next parts))
 
-pub returns_change_nothing : (bytes : List ℕ) → EndInNoReturn (lines bytes) → text_rows (with_returns bytes) ≡ text_rows bytes
-returns_change_nothing bytes h =
-    let same : map words (lines (with_returns bytes)) ≡ map words (lines bytes) =
-    ap (λ parts. map words (less_empty_last parts)) (split_returned bytes) ∙ same_words (slice_split is_line_feed bytes) h in
-    text_rows_are (with_returns bytes) ∙ ap numbered same ∙ sym (text_rows_are bytes)
+pub carriage_returns_change_nothing : (bytes : List ℕ) → EndWithoutCarriageReturn (lines bytes) → text_rows (with_carriage_returns bytes) ≡ text_rows bytes
+carriage_returns_change_nothing bytes h =
+    let same : map words (lines (with_carriage_returns bytes)) ≡ map words (lines bytes) =
+    ap (λ parts. map words (without_empty_last parts)) (split_with_returns bytes) ∙ same_words (slice_split is_line_feed bytes) h in
+    text_rows_are (with_carriage_returns bytes) ∙ ap numbered same ∙ sym (text_rows_are bytes)

@@ -45,7 +45,7 @@ nothing m n k zero =
     let product : m * n ≡ 0 = rw is (omega arith) in
     div-eq_of_lt {n = m * n} {m = 10 ^ k} (omega (arith, ten-pos k))
 
--- the millionths of m without its last `places` digits, with the point moved up or down, and the same up to 100 places alone
+-- the millionths of m without its last `places` digits, with the point point_after_exponent up or down, and the same up to 100 places alone
 abbrev pub cut : ℕ → ℕ → ℕ → ℕ → ℕ
 cut m places up down = m * 10 ^ up * 10 ^ 6 / 10 ^ (places + down)
 
@@ -61,16 +61,16 @@ abbrev pub Agree : ℕ → ℕ → Type 0
 Agree a b = (a ≡ b) ⊎ ((10 ^ 15 < a) × (10 ^ 15 < b))
 
 pub agree_near : (a b : ℕ) → Agree a b → b ≤ 10 ^ 15 → a ≡ b
-agree_near a b (inl same) near = same
-agree_near a b (inr far) near = absurd (omega (arith, far.1))
+agree_near a b (inl same) in_range = same
+agree_near a b (inr out_of_range) in_range = absurd (omega (arith, out_of_range.1))
 
 pub agree_far : (a b : ℕ) → Agree a b → 10 ^ 15 < b → 10 ^ 15 < a
-agree_far a b (inl same) far = omega arith
-agree_far a b (inr both) far = both.0
+agree_far a b (inl same) out_of_range = omega arith
+agree_far a b (inr both) out_of_range = both.0
 
 pub agree_back : (a b : ℕ) → Agree a b → Agree b a
 agree_back a b (inl same) = inl (sym same)
-agree_back a b (inr far) = inr (far.1, far.0)
+agree_back a b (inr out_of_range) = inr (out_of_range.1, out_of_range.0)
 
 le_or_more : (m n : ℕ) → (m ≤ n) ⊎ (n < m)
 le_or_more m n = grind arith

@@ -6,24 +6,25 @@ use Rattle.std.proofs.lemmas.Option.{get_or_from_slice_get, slice_get-get_or}
 use Rattle.liszt_base.specs.Cuts.{cut, AreEnds, start_at}
 use Rattle.liszt_base.proofs.Cuts.{cut_length, cut_at, cut_kept, cut_close, ends_at, ends_push}
 use Rattle.text_scan.specs.Rows.{Row, has_words}
-use Rattle.text_scan.specs.Tables.{OpenRows, rows_in, row_at}
+use Rattle.text_scan.specs.Internal.OpenRows.{OpenRows, rows_of_ends}
+use Rattle.text_scan.specs.Rows.{row_at}
 use Rattle.text_scan.specs.declared.row_table.RowEnd.{RowEnd}
 
-pub rows_in_length : (ends : List RowEnd) (pieces : List (List (List ℕ))) → length ends ≡ length pieces → length (rows_in ends pieces) ≡ length ends
-rows_in_length [] pieces e = refl
-rows_in_length (end ∷ ends) [] e = absurd (omega arith)
-rows_in_length (end ∷ ends) (piece ∷ pieces) e = ap suc (rows_in_length ends pieces (omega arith))
+pub rows_of_ends_length : (ends : List RowEnd) (pieces : List (List (List ℕ))) → length ends ≡ length pieces → length (rows_of_ends ends pieces) ≡ length ends
+rows_of_ends_length [] pieces e = refl
+rows_of_ends_length (end ∷ ends) [] e = absurd (omega arith)
+rows_of_ends_length (end ∷ ends) (piece ∷ pieces) e = ap suc (rows_of_ends_length ends pieces (omega arith))
 
-pub rows_in_push : (ends : List RowEnd) (pieces : List (List (List ℕ))) (end : RowEnd) (piece : List (List ℕ)) → length ends ≡ length pieces
-    → rows_in (ends ++ end ∷ []) (pieces ++ piece ∷ []) ≡ rows_in ends pieces ++ record { line = end.line; words = piece } ∷ []
-rows_in_push [] [] end piece e = refl
-rows_in_push [] (other ∷ pieces) end piece e = absurd (omega arith)
-rows_in_push (other ∷ ends) [] end piece e = absurd (omega arith)
-rows_in_push (first ∷ ends) (other ∷ pieces) end piece e =
-    ap (λ l. record { line = first.line; words = other } ∷ l) (rows_in_push ends pieces end piece (omega arith))
+pub rows_of_ends_push : (ends : List RowEnd) (pieces : List (List (List ℕ))) (end : RowEnd) (piece : List (List ℕ)) → length ends ≡ length pieces
+    → rows_of_ends (ends ++ end ∷ []) (pieces ++ piece ∷ []) ≡ rows_of_ends ends pieces ++ record { line = end.line; words = piece } ∷ []
+rows_of_ends_push [] [] end piece e = refl
+rows_of_ends_push [] (other ∷ pieces) end piece e = absurd (omega arith)
+rows_of_ends_push (other ∷ ends) [] end piece e = absurd (omega arith)
+rows_of_ends_push (first ∷ ends) (other ∷ pieces) end piece e =
+    ap (λ l. record { line = first.line; words = other } ∷ l) (rows_of_ends_push ends pieces end piece (omega arith))
 
 pub row_is : (ends : List RowEnd) (pieces : List (List (List ℕ))) (i : ℕ) (end : RowEnd) → length ends ≡ length pieces → i < length ends
-    → row_at (rows_in ends pieces) i ≡ record { line = (get_or ends i end).line; words = get_or pieces i [] }
+    → row_at (rows_of_ends ends pieces) i ≡ record { line = (get_or ends i end).line; words = get_or pieces i [] }
 row_is [] pieces i end e lt = absurd (omega arith)
 row_is (first ∷ ends) [] i end e lt = absurd (omega arith)
 row_is (first ∷ ends) (piece ∷ pieces) zero end e lt = refl
@@ -35,12 +36,12 @@ abbrev ends_of : List RowEnd → List ℕ
 ends_of ends = map (λ e. e.end) ends
 
 -- there are as many rows as ends
-pub rows_count : (words : List (List ℕ)) (ends : List RowEnd) (rows : List Row) → rows_in ends (cut 0 words (ends_of ends)) ≡ rows
+pub rows_count : (words : List (List ℕ)) (ends : List RowEnd) (rows : List Row) → rows_of_ends ends (cut 0 words (ends_of ends)) ≡ rows
     → length ends ≡ length rows
 rows_count words ends rows e =
     let pieces = cut_length 0 words (ends_of ends) in
     let size = length-map ends (λ e. e.end) in
-    sym (rows_in_length ends (cut 0 words (ends_of ends)) (omega (arith, pieces, size))) ∙ ap length e
+    sym (rows_of_ends_length ends (cut 0 words (ends_of ends)) (omega (arith, pieces, size))) ∙ ap length e
 
 -- The row at a place: where its words begin and end among those of the table.
 pub record IsRowAt (words : List (List ℕ)) (row : Row) (start end : ℕ) : Type 0 where
@@ -49,7 +50,7 @@ pub record IsRowAt (words : List (List ℕ)) (row : Row) (start end : ℕ) : Typ
   pub words_are : row.words ≡ take (end - start) (drop start words)
 
 pub row_found : (words : List (List ℕ)) (ends seen : List RowEnd) (rows : List Row) (closed place start end : ℕ)
-    → rows_in ends (cut 0 words (ends_of ends)) ≡ rows → AreEnds 0 (ends_of ends) closed → closed ≤ length words → place < length rows
+    → rows_of_ends ends (cut 0 words (ends_of ends)) ≡ rows → AreEnds 0 (ends_of ends) closed → closed ≤ length words → place < length rows
     → seen ≡ ends → start ≡ start_at 0 (ends_of seen) place → end ≡ slice_index (ends_of seen) place → IsRowAt words (row_at rows place) start end
 row_found words ends seen rows closed place start end e h le lt same_ends start_is end_is =
     let pieces = cut 0 words (ends_of ends) in
@@ -89,7 +90,7 @@ words_count words row start end r =
 
 -- its line
 pub line_found : (words : List (List ℕ)) (ends : List RowEnd) (rows : List Row) (place : ℕ) (end : RowEnd)
-    → rows_in ends (cut 0 words (ends_of ends)) ≡ rows → place < length rows → end ≡ get_or ends place end → (row_at rows place).line ≡ end.line
+    → rows_of_ends ends (cut 0 words (ends_of ends)) ≡ rows → place < length rows → end ≡ get_or ends place end → (row_at rows place).line ≡ end.line
 line_found words ends rows place end e lt at =
     let pieces = cut 0 words (ends_of ends) in
     let size = length-map ends (λ e. e.end) in
@@ -109,24 +110,24 @@ start_is ends (suc place) end some lt =
 
 -- the table with a word more
 pub word_pushed : (words words' : List (List ℕ)) (ends : List RowEnd) (closed : ℕ) (word : List ℕ) (now : OpenRows)
-    → record { rows = rows_in ends (cut 0 words (ends_of ends)); last = drop closed words } ≡ now
+    → record { rows = rows_of_ends ends (cut 0 words (ends_of ends)); last = drop closed words } ≡ now
     → AreEnds 0 (ends_of ends) closed → closed ≤ length words → words' ≡ words ++ word ∷ []
-    → ◌≡◌ {A = OpenRows} (record { rows = rows_in ends (cut 0 words' (ends_of ends)); last = drop closed words' })
+    → ◌≡◌ {A = OpenRows} (record { rows = rows_of_ends ends (cut 0 words' (ends_of ends)); last = drop closed words' })
     (record { rows = now.rows; last = now.last ++ word ∷ [] })
 word_pushed words words' ends closed word now e h le same =
     let kept : cut 0 words' (ends_of ends) ≡ cut 0 words (ends_of ends) =
     ap (λ l. cut 0 l (ends_of ends)) same ∙ cut_kept 0 closed words (word ∷ []) (ends_of ends) h le in
     let more : drop closed words' ≡ drop closed words ++ word ∷ [] = ap (drop closed) same ∙ drop-append-le closed words (word ∷ []) le in
-    let rows_are : rows_in ends (cut 0 words' (ends_of ends)) ≡ now.rows = ap (rows_in ends) kept ∙ ap (λ t. t.rows) e in
+    let rows_are : rows_of_ends ends (cut 0 words' (ends_of ends)) ≡ now.rows = ap (rows_of_ends ends) kept ∙ ap (λ t. t.rows) e in
     let last_is : drop closed words' ≡ now.last ++ word ∷ [] = more ∙ ap (λ t. t.last ++ word ∷ []) e in
     cc (rows_are, last_is)
 
 -- the table with a row more
 pub row_closed : (words : List (List ℕ)) (ends ends' : List RowEnd) (closed line end : ℕ) (now : OpenRows)
-    → record { rows = rows_in ends (cut 0 words (ends_of ends)); last = drop closed words } ≡ now
+    → record { rows = rows_of_ends ends (cut 0 words (ends_of ends)); last = drop closed words } ≡ now
     → AreEnds 0 (ends_of ends) closed → closed < end → end ≡ length words → ends' ≡ ends ++ record { line = line; end = end } ∷ []
     → (AreEnds 0 (ends_of ends') end × (end ≤ length words))
-    × (◌≡◌ {A = OpenRows} (record { rows = rows_in ends' (cut 0 words (ends_of ends')); last = drop end words })
+    × (◌≡◌ {A = OpenRows} (record { rows = rows_of_ends ends' (cut 0 words (ends_of ends')); last = drop end words })
     (record { rows = now.rows ++ filter has_words (record { line = line; words = now.last } ∷ []); last = [] }))
 row_closed words ends ends' closed line end now e h less end_is same =
     let le : closed ≤ length words = omega arith in
@@ -137,10 +138,10 @@ row_closed words ends ends' closed line end now e h less end_is same =
     ap (cut 0 words) places ∙ (ap (λ k. cut 0 words (ends_of ends ++ k ∷ [])) end_is ∙ cut_close 0 closed words (ends_of ends) h le) in
     let size : length ends ≡ length (cut 0 words (ends_of ends)) =
     omega (arith, cut_length 0 words (ends_of ends), length-map ends (λ e. e.end)) in
-    let rows_are : rows_in ends' (cut 0 words (ends_of ends')) ≡ now.rows ++ record { line = line; words = now.last } ∷ [] =
-    ap (λ l. rows_in l (cut 0 words (ends_of ends'))) same
-    ∙ (ap (rows_in (ends ++ last ∷ [])) cuts
-    ∙ (rows_in_push ends (cut 0 words (ends_of ends)) last (drop closed words) size
+    let rows_are : rows_of_ends ends' (cut 0 words (ends_of ends')) ≡ now.rows ++ record { line = line; words = now.last } ∷ [] =
+    ap (λ l. rows_of_ends l (cut 0 words (ends_of ends'))) same
+    ∙ (ap (rows_of_ends (ends ++ last ∷ [])) cuts
+    ∙ (rows_of_ends_push ends (cut 0 words (ends_of ends)) last (drop closed words) size
     ∙ ap (λ t. t.rows ++ record { line = line; words = t.last } ∷ []) e)) in
     let some : 0 < length now.last = omega (arith, length-drop closed words, ap (λ t. length t.last) e) in
     let kept : filter has_words (record { line = line; words = now.last } ∷ []) ≡ record { line = line; words = now.last } ∷ [] =

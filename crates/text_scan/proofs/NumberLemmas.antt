@@ -10,10 +10,10 @@ use Rattle.std.proofs.lemmas.List.{length-append}
 use Rattle.std.proofs.Math.Nat.{pow-le-pow_right}
 use Rattle.std.proofs.lemmas.Int.Digits.{digits_value-lt}
 use Rattle.text_scan.specs.declared.faults.NumberFault.TheVariants.{CoordRange}
-use Rattle.text_scan.specs.Numbers.{is_numeral, whole_of, is_exponent_mark, is_point, mantissa, exponent, fraction, digits, is_coordinate, raised, lowered, magnitude, millionths_of}
-use Rattle.text_scan.proofs.Meaning.{all_digits}
-use Rattle.text_scan.proofs.Splits.{all_before}
-use Rattle.text_scan.proofs.Places.{places_of, divided, held}
+use Rattle.text_scan.specs.Numbers.{is_numeral, whole_of, is_exponent_mark, is_decimal_point, mantissa, exponent, fraction, digits, is_coordinate, positive_exponent, negative_exponent, magnitude, millionths_of}
+use Rattle.text_scan.proofs.MeaningLemmas.{all_digits}
+use Rattle.text_scan.proofs.SplitLemmas.{all_before}
+use Rattle.text_scan.proofs.DecimalPlaces.{places_of, divided, held}
 
 -- whole numbers
 pub whole_is : (text : List ℕ) (size : ℕ) (value : ℤ) → is_numeral (without_leading_sign text) ≡ true → length (without_leading_sign text) ≤ 18
@@ -31,8 +31,8 @@ whole_is text size value is few held valued =
 abbrev pub well_ended : List ℕ → Bool
 well_ended text = not (list_any is_exponent_mark text) || is_numeral (without_leading_sign (exponent text))
 
-abbrev pub moved : ℕ → List ℕ → ℕ
-moved point text = point + min (raised text) 100 - min (lowered text) 100
+abbrev pub point_after_exponent : ℕ → List ℕ → ℕ
+point_after_exponent point text = point + min (positive_exponent text) 100 - min (negative_exponent text) 100
 
 -- the two ways of an exponent
 abbrev up : List ℕ → ℕ
@@ -53,17 +53,17 @@ exponent_moves behind point = cond (is_numeral (without_leading_sign behind))
     (point - min (digits_value 10 (without_leading_sign behind)) 100)
     (point + min (digits_value 10 (without_leading_sign behind)) 100))) None
 
-pub moved_is : (text : List ℕ) (behind : Option (Bor (List ℕ))) (point : ℕ) (places : Option ℕ)
+pub point_after_exponent_is : (text : List ℕ) (behind : Option (Bor (List ℕ))) (point : ℕ) (places : Option ℕ)
     → option_map (λ rest. rest.now) behind ≡ cond (list_any is_exponent_mark text) (Some (exponent text)) None
     → IfNone behind (places ≡ Some point)
     → IfSome behind (λ rest. places ≡ exponent_moves rest.now point)
-    → places ≡ cond (well_ended text) (Some (moved point text)) None
-moved_is text behind point places cut none some = go (list_any is_exponent_mark text) refl behind cut none some where
+    → places ≡ cond (well_ended text) (Some (point_after_exponent point text)) None
+point_after_exponent_is text behind point places cut none some = go (list_any is_exponent_mark text) refl behind cut none some where
   go : (b : Bool) → list_any is_exponent_mark text ≡ b → (behind : Option (Bor (List ℕ)))
       → option_map (λ rest. rest.now) behind ≡ cond b (Some (exponent text)) None
       → IfNone behind (places ≡ Some point)
       → IfSome behind (λ rest. places ≡ exponent_moves rest.now point)
-      → places ≡ cond (not b || is_numeral (without_leading_sign (exponent text))) (Some (moved point text)) None
+      → places ≡ cond (not b || is_numeral (without_leading_sign (exponent text))) (Some (point_after_exponent point text)) None
   go true is None e _ _ = cc
   go false is (Some rest) e _ _ = cc
   go false is None e plain _ =
@@ -79,12 +79,12 @@ moved_is text behind point places cut none some = go (list_any is_exponent_mark 
 
 -- the number of millionths from the first places of the digits
 pub size_is : (text : List ℕ) → is_numeral (digits text) ≡ true
-    → magnitude text ≡ places_of (moved (length (before_first is_point (mantissa text)) + 6) text) (digits text)
+    → magnitude text ≡ places_of (point_after_exponent (length (before_first is_decimal_point (mantissa text)) + 6) text) (digits text)
 size_is text is =
     let numeral = and_parts (nat_lt 0 (length (digits text))) (list_all is_ascii_digit (digits text)) is in
-    let u = min (raised text) 100 in
-    let d = min (lowered text) 100 in
-    let whole = before_first is_point (mantissa text) in
+    let u = min (positive_exponent text) 100 in
+    let d = min (negative_exponent text) 100 in
+    let whole = before_first is_decimal_point (mantissa text) in
     let long = length-append whole (fraction text) in
     let places : length (digits text) + (6 + u) - (length (fraction text) + d) ≡ length whole + 6 + u - d = omega arith in
     divided (digits text) (6 + u) (length (fraction text) + d) (all_digits (digits text) numeral.1)
@@ -94,42 +94,42 @@ size_is text is =
 past : (n : ℕ) → 10 ^ 15 < n → nat_le n (10 ^ 15) ≡ false
 past n more = grind (arith, nat_tests)
 
-chosen : (b : Bool) (n places : ℕ) → ◌≡◌ {A = Option ℕ} (Some places) (cond b (Some n) None) → (b ≡ true) × (places ≡ n)
-chosen true n places e = (refl, cc)
-chosen false n places e = absurd cc
+some_of_cond : (b : Bool) (n places : ℕ) → ◌≡◌ {A = Option ℕ} (Some places) (cond b (Some n) None) → (b ≡ true) × (places ≡ n)
+some_of_cond true n places e = (refl, cc)
+some_of_cond false n places e = absurd cc
 
 -- a text is a coordinate of that size
-abbrev pub Is : List ℕ → ℕ → Type 0
-Is text size = (is_coordinate text ≡ true) × (size ≡ min (magnitude text) (10 ^ 18))
+abbrev pub HasSize : List ℕ → ℕ → Type 0
+HasSize text size = (is_coordinate text ≡ true) × (size ≡ min (magnitude text) (10 ^ 18))
 
 pub coordinate_is : (text whole behind : List ℕ) (rest : Option (Bor (List ℕ))) (places size : ℕ)
-    → whole ≡ before_first is_point (mantissa text) → behind ≡ fraction text
+    → whole ≡ before_first is_decimal_point (mantissa text) → behind ≡ fraction text
     → option_map (λ r. r.now) rest ≡ cond (list_any is_exponent_mark text) (Some (exponent text)) None
     → length text ≤ 64 → is_numeral (whole ++ behind) ≡ true
     → IfNone rest (◌≡◌ {A = Option ℕ} (Some places) (Some (length whole + 6)))
     → IfSome rest (λ r. ◌≡◌ {A = Option ℕ} (Some places) (exponent_moves r.now (length whole + 6)))
-    → size ≡ min (places_of places (whole ++ behind)) (10 ^ 18) → Is text size
+    → size ≡ min (places_of places (whole ++ behind)) (10 ^ 18) → HasSize text size
 coordinate_is text whole behind rest places size w b cut short is none some held =
-    let ended = moved_is text rest (length whole + 6) (Some places) cut none some in
-    let same : whole ++ behind ≡ digits text = ap (λ l. l ++ behind) w ∙ ap (λ l. before_first is_point (mantissa text) ++ l) b in
+    let ended = point_after_exponent_is text rest (length whole + 6) (Some places) cut none some in
+    let same : whole ++ behind ≡ digits text = ap (λ l. l ++ behind) w ∙ ap (λ l. before_first is_decimal_point (mantissa text) ++ l) b in
     let numeral : is_numeral (digits text) ≡ true = ap is_numeral (sym same) ∙ is in
-    let end = chosen (well_ended text) (moved (length whole + 6) text) places ended in
+    let end = some_of_cond (well_ended text) (point_after_exponent (length whole + 6) text) places ended in
     let sized = size_is text numeral in (
       rw (le-leb (length text) 64 short, numeral, end.0) refl,
       held
           ∙ ap (λ l. min (places_of places l) (10 ^ 18)) same
-          ∙ ap (λ n. min (places_of n (digits text)) (10 ^ 18)) (end.1 ∙ ap (λ l. moved (length l + 6) text) w)
+          ∙ ap (λ n. min (places_of n (digits text)) (10 ^ 18)) (end.1 ∙ ap (λ l. point_after_exponent (length l + 6) text) w)
           ∙ ap (λ n. min n (10 ^ 18)) (sym sized),
     )
 
-pub far : (text : List ℕ) (size : ℕ) → Is text size → 10 ^ 15 < size → Err CoordRange ≡ millionths_of text
-far text size is more =
+pub out_of_range : (text : List ℕ) (size : ℕ) → HasSize text size → 10 ^ 15 < size → Err CoordRange ≡ millionths_of text
+out_of_range text size is more =
     let out : nat_le (magnitude text) (10 ^ 15) ≡ false = past (magnitude text) (omega (arith, is.1)) in
     rw (is.0, out) refl
 
-pub near : (text : List ℕ) (size : ℕ) (value : ℤ) → Is text size → size ≤ 10 ^ 15
+pub in_range : (text : List ℕ) (size : ℕ) (value : ℤ) → HasSize text size → size ≤ 10 ^ 15
     → value ≡ cond (starts_with_minus text) (neg_ℤ (pos size)) (pos size) → Ok value ≡ millionths_of text
-near text size value is few valued =
+in_range text size value is few valued =
     let same : size ≡ magnitude text = omega (arith, is.1) in
     let within : nat_le (magnitude text) (10 ^ 15) ≡ true = le-leb (magnitude text) (10 ^ 15) (omega arith) in
     rw (is.0, within, valued, same) refl

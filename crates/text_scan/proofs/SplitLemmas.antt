@@ -100,8 +100,8 @@ before_append p (x ∷ xs) y ys h e =
 
 -- FIRST PLACES: where the first element that passes stands, if any does
 
-one_more : (m n : ℕ) → nat_lt m n ≡ nat_lt (1 + m) (suc n)
-one_more m n = grind (arith, nat_tests)
+one_part_more : (m n : ℕ) → nat_lt m n ≡ nat_lt (1 + m) (suc n)
+one_part_more m n = grind (arith, nat_tests)
 
 first_of_some : (n : ℕ) → true ≡ nat_lt 0 (suc n)
 first_of_some n = grind (arith, nat_tests)
@@ -113,7 +113,7 @@ any_within p (x ∷ xs) = go (p x) (any_within p xs) where
   go : (b : Bool) → list_any p xs ≡ nat_lt (position_or_len p xs) (length xs)
       → (b || list_any p xs) ≡ nat_lt (cond (not b) (1 + position_or_len p xs) 0) (length (x ∷ xs))
   go true more = first_of_some (length xs)
-  go false more = more ∙ one_more (position_or_len p xs) (length xs)
+  go false more = more ∙ one_part_more (position_or_len p xs) (length xs)
 
 -- where none passes, the whole list stands before and nothing behind
 pub all_before : (p : ℕ → Bool) (xs : List ℕ) → NonePass p xs → (xs ≡ before_first p xs) × ([] ≡ after_first p xs)
@@ -122,10 +122,10 @@ all_before p xs none =
     let past : length xs ≤ position_or_len p xs = grind (arith, nat_tests) in
     (sym (take_all (position_or_len p xs) xs past), sym (drop_all (position_or_len p xs + 1) xs (omega arith)))
 
--- what a place that was found says, and what none says
-pub found : (p : ℕ → Bool) (xs : List ℕ) (place : ℕ) → position p xs ≡ Some place
+-- what a place that was position_some says, and what none says
+pub position_some : (p : ℕ → Bool) (xs : List ℕ) (place : ℕ) → position p xs ≡ Some place
     → (list_any p xs ≡ true) × (take place xs ≡ before_first p xs) × (drop (place + 1) xs ≡ after_first p xs)
-found p xs place h = go (nat_lt (position_or_len p xs) (length xs)) refl h where
+position_some p xs place h = go (nat_lt (position_or_len p xs) (length xs)) refl h where
   go : (b : Bool) → nat_lt (position_or_len p xs) (length xs) ≡ b → cond b (Some (position_or_len p xs)) None ≡ Some place
       → (list_any p xs ≡ true) × (take place xs ≡ before_first p xs) × (drop (place + 1) xs ≡ after_first p xs)
   go true is e =
@@ -133,8 +133,8 @@ found p xs place h = go (nat_lt (position_or_len p xs) (length xs)) refl h where
       (any_within p xs ∙ is, ap (λ n. take n xs) same, ap (λ n. drop (n + 1) xs) same)
   go false is e = absurd cc
 
-pub missed : (p : ℕ → Bool) (xs : List ℕ) → position p xs ≡ None → NonePass p xs
-missed p xs h = go (nat_lt (position_or_len p xs) (length xs)) refl h where
+pub position_none : (p : ℕ → Bool) (xs : List ℕ) → position p xs ≡ None → NonePass p xs
+position_none p xs h = go (nat_lt (position_or_len p xs) (length xs)) refl h where
   go : (b : Bool) → nat_lt (position_or_len p xs) (length xs) ≡ b → cond b (Some (position_or_len p xs)) None ≡ None → NonePass p xs
   go true is e = absurd cc
   go false is e = any_within p xs ∙ is
