@@ -9,26 +9,26 @@ use Rattle.liszt_base.specs.declared.answers.MeshFile.{MeshFile}
 use Rattle.liszt_base.specs.declared.answers.MeshWhat.{MeshWhat}
 use Rattle.liszt_base.specs.declared.answers.MeshWhat.TheVariants.{Missing}
 use Rattle.text_scan.specs.Rows.{Row}
-use Rattle.text_scan.specs.Tables.{row_at}
+use Rattle.text_scan.specs.Rows.{row_at}
 use Rattle.tet_reader.specs.Tests.{first}
 use Rattle.tet_reader.specs.Points.{AreNumbered}
 use Rattle.tet_reader.specs.Faults.{fault_at, line_fault, file_tests}
 use Rattle.tet_reader.proofs.Tests.{FindNone, each_none, first_none}
-use Rattle.tet_reader.proofs.WordLists.{first_behind}
-use Rattle.tet_reader.proofs.RowLists.{AllPass, row_faults, last_tests, pass_rows, line_again}
+use Rattle.tet_reader.proofs.WordLists.{first_after}
+use Rattle.tet_reader.proofs.RowLists.{AllPass, row_faults, last_tests, pass_rows, line_passes}
 
 -- the tests of a kind of rows, by place and words
 abbrev Tests : Type 0
 Tests = ℕ → List (List ℕ) → List (Option MeshWhat)
 
 -- The rows before a place pass and are those of these items; the first row has this number.
-pub record AreTaken {A : Type 0} (tests : Tests) (IsRowOf : ℕ → List (List ℕ) → A → Type 0) (number : ℕ) (rows : List Row) (items : List A) (place : ℕ) : Type 0 where
+pub record AreReadUpTo {A : Type 0} (tests : Tests) (IsRowOf : ℕ → List (List ℕ) → A → Type 0) (number : ℕ) (rows : List Row) (items : List A) (place : ℕ) : Type 0 where
   pub pass : AllPass tests 0 (take place rows)
   pub each : AreNumbered IsRowOf number (take place rows) items
 
-pub none_taken : {A : Type 0} (tests : Tests) (IsRowOf : ℕ → List (List ℕ) → A → Type 0) (number : ℕ) (rows : List Row) (items : List A) → items ≡ []
-    → AreTaken tests IsRowOf number rows items 0
-none_taken tests IsRowOf number rows items e =
+pub none_passed : {A : Type 0} (tests : Tests) (IsRowOf : ℕ → List (List ℕ) → A → Type 0) (number : ℕ) (rows : List Row) (items : List A) → items ≡ []
+    → AreReadUpTo tests IsRowOf number rows items 0
+none_passed tests IsRowOf number rows items e =
     record { pass = tt; each = subst (λ l. AreNumbered IsRowOf number [] l) (sym e) tt }
 
 pass_more : (tests : Tests) (start : ℕ) (rows : List Row) (place : ℕ) → place < length rows → AllPass tests start (take place rows)
@@ -56,19 +56,19 @@ numbered_more R number (row ∷ rows) (other ∷ items) (suc place) item lt h on
     subst (λ k. AreNumbered R number (take k (row ∷ rows)) (other ∷ (items ++ item ∷ []))) (sym at) (h.0, more)
 
 -- a row more
-pub row_taken : {A : Type 0} (tests : Tests) (IsRowOf : ℕ → List (List ℕ) → A → Type 0) (number : ℕ) (rows : List Row) (items items' : List A) (place : ℕ) (item : A)
-    → place < length rows → AreTaken tests IsRowOf number rows items place → first (tests place (row_at rows place).words) ≡ None
-    → IsRowOf (number + place) (row_at rows place).words item → items' ≡ items ++ item ∷ [] → AreTaken tests IsRowOf number rows items' (place + 1)
-row_taken tests IsRowOf number rows items items' place item lt h pass is same = record {
+pub row_read : {A : Type 0} (tests : Tests) (IsRowOf : ℕ → List (List ℕ) → A → Type 0) (number : ℕ) (rows : List Row) (items items' : List A) (place : ℕ) (item : A)
+    → place < length rows → AreReadUpTo tests IsRowOf number rows items place → first (tests place (row_at rows place).words) ≡ None
+    → IsRowOf (number + place) (row_at rows place).words item → items' ≡ items ++ item ∷ [] → AreReadUpTo tests IsRowOf number rows items' (place + 1)
+row_read tests IsRowOf number rows items items' place item lt h pass is same = record {
   pass = pass_more tests 0 rows place lt h.pass
       (subst (λ k. FindNone (tests k (row_at rows place).words)) (sym (zero-add place)) (each_none (tests place (row_at rows place).words) pass));
   each = subst (λ l. AreNumbered IsRowOf number (take (place + 1) rows) l) (sym same) (numbered_more IsRowOf number rows items place item lt h.each is);
 }
 
 -- all rows
-pub all_taken : {A : Type 0} (tests : Tests) (IsRowOf : ℕ → List (List ℕ) → A → Type 0) (number : ℕ) (rows : List Row) (items : List A) (place : ℕ)
-    → AreTaken tests IsRowOf number rows items place → length rows ≤ place → AllPass tests 0 rows × AreNumbered IsRowOf number rows items
-all_taken tests IsRowOf number rows items place h all =
+pub all_rows_read : {A : Type 0} (tests : Tests) (IsRowOf : ℕ → List (List ℕ) → A → Type 0) (number : ℕ) (rows : List Row) (items : List A) (place : ℕ)
+    → AreReadUpTo tests IsRowOf number rows items place → length rows ≤ place → AllPass tests 0 rows × AreNumbered IsRowOf number rows items
+all_rows_read tests IsRowOf number rows items place h all =
     let whole = take_all place rows all in (
       subst (λ l. AllPass tests 0 l) whole h.pass,
       subst (λ l. AreNumbered IsRowOf number l items) whole h.each,
@@ -85,7 +85,7 @@ found_among file count tests start (row ∷ rows) zero what end lt h wrong =
     rw here refl
 found_among file count tests start (row ∷ rows) (suc place) what end lt h wrong =
     let number : start + suc place ≡ start + 1 + place = omega arith in
-    let none = line_again file count row.line (tests start row.words) h.0 in
+    let none = line_passes file count row.line (tests start row.words) h.0 in
     let more = found_among file count tests (start + 1) rows place what end (omega arith) h.1
     (ap (λ k. first (tests k (row_at rows place).words)) (sym number) ∙ wrong) in
     rw none more
@@ -96,7 +96,7 @@ pub row_fault : (file : MeshFile) (count : ℤ) (header_tests : List (Option Mes
     → first (tests place (row_at rows place).words) ≡ Some what
     → first (file_tests file count header_tests tests last header rows) ≡ Some (fault_at file count (row_at rows place).line what)
 row_fault file count header_tests tests last header rows place what head lt h wrong =
-    let none = line_again file count header.line header_tests head in
+    let none = line_passes file count header.line header_tests head in
     rw none (found_among file count tests 0 rows place what (line_fault file count last (last_tests count rows) ∷ []) lt h
     (ap (λ k. first (tests k (row_at rows place).words)) (zero-add place) ∙ wrong))
 
@@ -105,7 +105,7 @@ pub missing_fault : (file : MeshFile) (count : ℤ) (header_tests : List (Option
     → FindNone header_tests → AllPass tests 0 rows → length rows < nat_abs count
     → first (file_tests file count header_tests tests last header rows) ≡ Some (fault_at file count last Missing)
 missing_fault file count header_tests tests last header rows head pass few =
-    let none = line_again file count header.line header_tests head in
+    let none = line_passes file count header.line header_tests head in
     let rest = first_none (row_faults file count tests 0 rows) (pass_rows file count tests 0 rows pass) in
     let short : nat_le (nat_abs count) (length rows) ≡ false = grind (arith, nat_tests) in
-    rw none (first_behind (row_faults file count tests 0 rows) (line_fault file count last (last_tests count rows) ∷ []) rest ∙ rw short refl)
+    rw none (first_after (row_faults file count tests 0 rows) (line_fault file count last (last_tests count rows) ∷ []) rest ∙ rw short refl)

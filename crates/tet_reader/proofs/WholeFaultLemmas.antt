@@ -13,10 +13,10 @@ use Rattle.liszt_base.specs.declared.answers.MeshWhat.{MeshWhat}
 use Rattle.liszt_base.specs.declared.answers.MeshWhat.TheVariants.{CellTwice, FaceShared}
 use Rattle.text_scan.specs.Rows.{Row}
 use Rattle.tet_reader.specs.Faults.{fault_at, row_corners, cell_fault, whole_tests}
-use Rattle.tet_reader.specs.Misfits.{first_true, misfit, first_misfit}
+use Rattle.tet_reader.specs.Internal.FirstMisfit.{first_true, misfit, first_misfit}
 use Rattle.tet_reader.specs.Tests.{first}
 use Rattle.tet_reader.specs.declared.misfit.Misfit.{Misfit}
-use Rattle.tet_reader.proofs.WholeMesh.{along_length}
+use Rattle.tet_reader.proofs.WholeMeshLemmas.{along_length}
 
 -- the fault of a cell, at the line of its row
 abbrev pub misfit_fault : List Row → Misfit → MeshFault

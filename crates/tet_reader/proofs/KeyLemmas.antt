@@ -14,8 +14,8 @@ use Rattle.std.proofs.lemmas.Map.Text.{is_eq-slice_cmp}
 use Rattle.std.proofs.lemmas.Slice.Eq.{bytes_eq-Decides}
 use Rattle.liszt_base.specs.Corners.{is_in, includes, same_members, are_different}
 use Rattle.tet_reader.specs.declared.misfit.Row.{Row}
-use Rattle.tet_reader.specs.Repeats.{IsRow}
-use Rattle.tet_reader.proofs.Faces.{same_either_way}
+use Rattle.tet_reader.specs.Internal.RepeatedRows.{IsRow}
+use Rattle.tet_reader.proofs.FaceLemmas.{same_either_way}
 
 -- two tests are one where each passes with the other
 pub bool_is : (a b : Bool) → (a ≡ true → b ≡ true) → (b ≡ true → a ≡ true) → a ≡ b
@@ -69,7 +69,7 @@ least_first y ys x s m = elim (or_cases (y == x) (is_in ys x) m) [
   | inr n ↦ omega (arith, above y ys x (sorted_head nat_cmp y ys s) n)
 ]
 
--- a member behind the first is one of the other list behind its first
+-- a member after the first is one of the other list after its first
 still_in : (x y : ℕ) (xs ys : List ℕ) (v : ℕ) → IsStrictlySortedBy nat_cmp (x ∷ xs) → x ≡ y → is_in (x ∷ xs) v ≡ is_in (y ∷ ys) v
     → is_in xs v ≡ true → is_in ys v ≡ true
 still_in x y xs ys v r e h m = elim (or_cases (y == v) (is_in ys v) (sym h ∙ or_right (x == v) (is_in xs v) m)) [

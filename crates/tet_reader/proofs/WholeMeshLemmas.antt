@@ -15,7 +15,7 @@ use Rattle.tet_reader.specs.Points.{AreNumbered, IsCellRow, Points, Cells}
 use Rattle.tet_reader.specs.Faults.{first_number, row_corners, cell_fault, whole_tests, node_fault, ele_fault, mesh_fault}
 use Rattle.tet_reader.proofs.Tests.{FindNone, each_none, first_none, none_append, append_none}
 use Rattle.tet_reader.proofs.CellRows.{row_corners_are}
-use Rattle.tet_reader.proofs.Lists.{points_base, points_count, node_takes, node_again, ele_takes, ele_again}
+use Rattle.tet_reader.proofs.Lists.{points_base, points_count, node_spelled, node_passes, ele_spelled, ele_passes}
 
 -- ---- the tests of the whole mesh
 
@@ -29,18 +29,18 @@ abbrev NoneTrue : List Bool → Type 0
 NoneTrue tests = list_any (λ b. b) tests ≡ false
 
 -- no cell has a fault where none of the tests is true
-faults_take : (what : MeshWhat) (tests : List Bool) (rows : List Row) → length tests ≡ length rows
+faults_spelled : (what : MeshWhat) (tests : List Bool) (rows : List Row) → length tests ≡ length rows
     → FindNone (map (cell_fault what) (zip tests rows)) → NoneTrue tests
-faults_take what [] rows l h = refl
-faults_take what (test ∷ tests) [] l h = absurd (omega arith)
-faults_take what (true ∷ tests) (row ∷ rows) l h = cc (h.0)
-faults_take what (false ∷ tests) (row ∷ rows) l h = faults_take what tests rows (omega arith) h.1
+faults_spelled what [] rows l h = refl
+faults_spelled what (test ∷ tests) [] l h = absurd (omega arith)
+faults_spelled what (true ∷ tests) (row ∷ rows) l h = cc (h.0)
+faults_spelled what (false ∷ tests) (row ∷ rows) l h = faults_spelled what tests rows (omega arith) h.1
 
-faults_again : (what : MeshWhat) (tests : List Bool) (rows : List Row) → NoneTrue tests → FindNone (map (cell_fault what) (zip tests rows))
-faults_again what [] rows h = tt
-faults_again what (test ∷ tests) [] h = tt
-faults_again what (true ∷ tests) (row ∷ rows) h = cc
-faults_again what (false ∷ tests) (row ∷ rows) h = (refl, faults_again what tests rows h)
+faults_passes : (what : MeshWhat) (tests : List Bool) (rows : List Row) → NoneTrue tests → FindNone (map (cell_fault what) (zip tests rows))
+faults_passes what [] rows h = tt
+faults_passes what (test ∷ tests) [] h = tt
+faults_passes what (true ∷ tests) (row ∷ rows) h = cc
+faults_passes what (false ∷ tests) (row ∷ rows) h = (refl, faults_passes what tests rows h)
 
 -- the corners that the tests take from rows, and those of cells
 abbrev pub CornersOf : ℕ → List Row → List (List ℕ)
@@ -50,8 +50,8 @@ abbrev pub CellCorners : List RawCell → List (List ℕ)
 CellCorners cells = map (λ cell. cell.corners) cells
 
 -- the tests of the whole mesh find nothing where the corners of its rows are whole
-pub whole_takes : (base : ℕ) (rows : List Row) → FindNone (whole_tests base rows) → FitTogether (CornersOf base rows)
-whole_takes base rows h =
+pub whole_spelled : (base : ℕ) (rows : List Row) → FindNone (whole_tests base rows) → FitTogether (CornersOf base rows)
+whole_spelled base rows h =
     let cells : List (List ℕ) = CornersOf base rows in
     let twice : List Bool = along repeats_earlier [] cells in
     let third : List Bool = along is_third [] cells in
@@ -59,14 +59,14 @@ whole_takes base rows h =
     let count : length cells ≡ length rows = length-map rows (λ (row : Row). row_corners base row.words) in
     let twice_count = along_length repeats_earlier [] cells ∙ count in
     let third_count = along_length is_third [] cells ∙ count in
-    (faults_take CellTwice twice rows twice_count parts.0, faults_take FaceShared third rows third_count parts.1)
+    (faults_spelled CellTwice twice rows twice_count parts.0, faults_spelled FaceShared third rows third_count parts.1)
 
-pub whole_again : (base : ℕ) (rows : List Row) → FitTogether (CornersOf base rows) → FindNone (whole_tests base rows)
-whole_again base rows h =
+pub whole_passes : (base : ℕ) (rows : List Row) → FitTogether (CornersOf base rows) → FindNone (whole_tests base rows)
+whole_passes base rows h =
     let twice : List Bool = along repeats_earlier [] (CornersOf base rows) in
     let third : List Bool = along is_third [] (CornersOf base rows) in
     none_append (map (cell_fault CellTwice) (zip twice rows)) (map (cell_fault FaceShared) (zip third rows))
-    (faults_again CellTwice twice rows h.0) (faults_again FaceShared third rows h.1)
+    (faults_passes CellTwice twice rows h.0) (faults_passes FaceShared third rows h.1)
 
 -- ---- the corners of the rows are those of the cells
 
@@ -112,27 +112,27 @@ same_faults node ele base points h =
 mesh_over : (node ele : TextRows) (base : ℕ) (points : List Point) → Points node.rows base points
     → FindNone (faults node ele (length points) base) → SomeMesh node ele
 mesh_over node ele base points h e =
-    let cells = ele_takes points base ele.last_line ele.rows e.1.0 in
+    let cells = ele_spelled points base ele.last_line ele.rows e.1.0 in
     let corners = cells_corners ele.rows points base cells.0 cells.1 in
-    let whole = subst (λ (l : List (List ℕ)). FitTogether l) corners.0 (whole_takes base (drop 1 ele.rows) e.1.1) in
+    let whole = subst (λ (l : List (List ℕ)). FitTogether l) corners.0 (whole_spelled base (drop 1 ele.rows) e.1.1) in
     (base, points, cells.0, h, cells.1, record { each = corners.1; together = whole })
 
 -- the two directions of the law
-pub mesh_takes : (node ele : TextRows) → mesh_fault node ele ≡ None → SomeMesh node ele
-mesh_takes node ele e =
+pub mesh_spelled : (node ele : TextRows) → mesh_fault node ele ≡ None → SomeMesh node ele
+mesh_spelled node ele e =
     let points : ℕ = length (drop 1 node.rows) in
     let base : ℕ = first_number (drop 1 node.rows) in
     let all = each_none (faults node ele points base) e in
-    let p = node_takes node.last_line node.rows all.0 in
+    let p = node_spelled node.last_line node.rows all.0 in
     mesh_over node ele p.0 p.1 p.2 (each_none (faults node ele (length p.1) p.0) (sym (same_faults node ele p.0 p.1 p.2) ∙ e))
 
-pub mesh_again : (node ele : TextRows) → SomeMesh node ele → mesh_fault node ele ≡ None
-mesh_again node ele m =
+pub mesh_passes : (node ele : TextRows) → SomeMesh node ele → mesh_fault node ele ≡ None
+mesh_passes node ele m =
     let base = m.0 in
     let points = m.1 in
     let corners = cells_corners ele.rows points base m.2 m.4 in
     let whole = subst (λ (l : List (List ℕ)). FitTogether l) (sym corners.0) m.5.together in
-    let node' = node_again node.last_line node.rows base points m.3 in
-    let ele' = ele_again points base ele.last_line ele.rows m.2 m.4 in
-    let all = first_none (faults node ele (length points) base) (node', (ele', whole_again base (drop 1 ele.rows) whole)) in
+    let node' = node_passes node.last_line node.rows base points m.3 in
+    let ele' = ele_passes points base ele.last_line ele.rows m.2 m.4 in
+    let all = first_none (faults node ele (length points) base) (node', (ele', whole_passes base (drop 1 ele.rows) whole)) in
     same_faults node ele base points m.3 ∙ all

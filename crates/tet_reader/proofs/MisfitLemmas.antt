@@ -12,12 +12,12 @@ use Rattle.std.proofs.lemmas.Map.Text.{is_eq-slice_cmp}
 use Rattle.liszt_base.specs.Corners.{is_in, includes, same_members, are_different, induced_cycles, along, repeats_earlier, is_third}
 use Rattle.liszt_base.specs.declared.mesh.RawCell.{RawCell}
 use Rattle.tet_reader.specs.declared.misfit.Row.{Row}
-use Rattle.tet_reader.specs.Misfits.{first_true}
-use Rattle.tet_reader.specs.Repeats.{repeats, placed, alone, IsRow}
-use Rattle.tet_reader.proofs.Faces.{count_more, same_either_way, IsTriple, apart, faces_are_triples, one_face}
-use Rattle.tet_reader.proofs.Placed.{count_same, held, again}
-use Rattle.tet_reader.proofs.Repeats.{row_order}
-use Rattle.tet_reader.proofs.LeastRepeat.{all_append, all_map, all_weaker, ArePieces, least_repeat_is}
+use Rattle.tet_reader.specs.Internal.FirstMisfit.{first_true}
+use Rattle.tet_reader.specs.Internal.RepeatedRows.{repeated_indices, with_cell_index, single_piece, IsRow}
+use Rattle.tet_reader.proofs.FaceLemmas.{count_more, same_either_way, IsTriple, apart, faces_are_triples, one_face}
+use Rattle.tet_reader.proofs.CellIndexLemmas.{count_same, held, item_passes}
+use Rattle.tet_reader.proofs.RepeatLemmas.{row_order}
+use Rattle.tet_reader.proofs.LeastRepeatLemmas.{all_append, all_map, all_weaker, ArePieces, least_repeat_is}
 
 -- ---- cells
 
@@ -50,12 +50,12 @@ same_back xs ys = and_back (includes xs ys) (includes ys xs) where
   and_back false false = refl
 
 -- where a cell has a piece of an earlier one, it comes again
-held_alone : (corners : List ℕ) (earlier : List (List ℕ))
-    → nat_lt 0 (held corners (map alone earlier)) ≡ list_any (same_members corners) earlier
-held_alone corners [] = refl
-held_alone corners (cell ∷ earlier) =
-    go (same_members cell corners) (same_members corners cell) (same_back cell corners) (held corners (map alone earlier))
-    (list_any (same_members corners) earlier) (held_alone corners earlier)
+repeated_alone : (corners : List ℕ) (earlier : List (List ℕ))
+    → nat_lt 0 (held corners (map single_piece earlier)) ≡ list_any (same_members corners) earlier
+repeated_alone corners [] = refl
+repeated_alone corners (cell ∷ earlier) =
+    go (same_members cell corners) (same_members corners cell) (same_back cell corners) (held corners (map single_piece earlier))
+    (list_any (same_members corners) earlier) (repeated_alone corners earlier)
   where
     go : (a b : Bool) → a ≡ b → (n : ℕ) (t : Bool) → nat_lt 0 n ≡ t → nat_lt 0 ((0 + cond a 1 0) + n) ≡ (b || t)
     go true true e n t h = lt-ltb 0 (1 + n) (omega arith)
@@ -69,15 +69,15 @@ or_false true = refl
 or_false false = refl
 
 -- and so along all cells
-along_alone : (cells : List (List ℕ)) → AllByRecursion AreCorners cells → along (again 0) [] (map alone cells) ≡ along repeats_earlier [] cells
-along_alone cells a =
-    along_map AreCorners alone (again 0) repeats_earlier
-    (λ earlier x e c. or_false (nat_lt 0 (held x (map alone earlier))) ∙ held_alone x earlier) [] cells tt a
+along_single_piece : (cells : List (List ℕ)) → AllByRecursion AreCorners cells → along (item_passes 0) [] (map single_piece cells) ≡ along repeats_earlier [] cells
+along_single_piece cells a =
+    along_map AreCorners single_piece (item_passes 0) repeats_earlier
+    (λ earlier x e c. or_false (nat_lt 0 (held x (map single_piece earlier))) ∙ repeated_alone x earlier) [] cells tt a
 
 -- the corners are the one piece
-alone_pieces : (corners : List ℕ) → AreCorners corners → ArePieces (alone corners)
+single_pieces : (corners : List ℕ) → AreCorners corners → ArePieces (single_piece corners)
 unfolding IsDistinct
-alone_pieces corners a = record { different = (a.1, tt); apart = (tt, tt) }
+single_pieces corners a = record { different = (a.1, tt); apart = (tt, tt) }
 
 -- what holds of four different corners written out
 of_four : (P : List ℕ → Type 0) → ((a b c d : ℕ) → are_different (a ∷ b ∷ c ∷ d ∷ []) ≡ true → P (a ∷ b ∷ c ∷ d ∷ []))
@@ -126,11 +126,11 @@ one_of_faces face t =
     ∙ one_face a b c d face e t)
 
 -- so earlier cells include it as often as their faces have its corners
-held_faces : (face : List ℕ) → IsTriple face → (earlier : List (List ℕ)) → AllByRecursion AreCorners earlier
+repeated_faces : (face : List ℕ) → IsTriple face → (earlier : List (List ℕ)) → AllByRecursion AreCorners earlier
     → held face (map induced_cycles earlier) ≡ count_by (λ cell. includes cell face) earlier
-held_faces face t [] a = refl
-held_faces face t (cell ∷ earlier) a =
-    cc (one_of_faces face t cell a.0, held_faces face t earlier a.1, count_more (λ x. includes x face) cell earlier)
+repeated_faces face t [] a = refl
+repeated_faces face t (cell ∷ earlier) a =
+    cc (one_of_faces face t cell a.0, repeated_faces face t earlier a.1, count_more (λ x. includes x face) cell earlier)
 
 -- two tests that agree at each member
 any_each : {A : Type 0} (P : A → Type 0) (p q : A → Bool) (xs : List A) → AllByRecursion P xs → ((x : A) → P x → p x ≡ q x)
@@ -145,16 +145,16 @@ triples = of_four (λ cell. AllByRecursion IsTriple (induced_cycles cell))
 
 -- where a cell has a face of two earlier ones, it is the third with it
 third_with : (earlier : List (List ℕ)) (corners : List ℕ) → AllByRecursion AreCorners earlier → AreCorners corners
-    → again 1 (map induced_cycles earlier) (induced_cycles corners) ≡ is_third earlier corners
+    → item_passes 1 (map induced_cycles earlier) (induced_cycles corners) ≡ is_third earlier corners
 third_with earlier corners e c =
     any_each IsTriple (λ face. nat_lt 1 (held face (map induced_cycles earlier)))
     (λ face. nat_lt 1 (count_by (λ cell. includes cell face) earlier)) (induced_cycles corners) (triples corners c)
-    (λ face t. ap (λ n. nat_lt 1 n) (held_faces face t earlier e))
+    (λ face t. ap (λ n. nat_lt 1 n) (repeated_faces face t earlier e))
 
 -- and so along all cells
 along_faces : (cells : List (List ℕ)) → AllByRecursion AreCorners cells
-    → along (again 1) [] (map induced_cycles cells) ≡ along is_third [] cells
-along_faces cells a = along_map AreCorners induced_cycles (again 1) is_third third_with [] cells tt a
+    → along (item_passes 1) [] (map induced_cycles cells) ≡ along is_third [] cells
+along_faces cells a = along_map AreCorners induced_cycles (item_passes 1) is_third third_with [] cells tt a
 
 -- ---- what the two tables say
 
@@ -168,11 +168,11 @@ EachFour cells = AllByRecursion (λ cell. AreCorners cell.corners) cells
 -- a table of pieces of cells, sorted
 table_is : (few back : ℕ) → back ≡ suc few → (pieces : List ℕ → List (List ℕ))
     → ((corners : List ℕ) → AreCorners corners → ArePieces (pieces corners)) → (test : List (List ℕ) → List ℕ → Bool)
-    → ((cells : List (List ℕ)) → AllByRecursion AreCorners cells → along (again few) [] (map pieces cells) ≡ along test [] cells)
+    → ((cells : List (List ℕ)) → AllByRecursion AreCorners cells → along (item_passes few) [] (map pieces cells) ≡ along test [] cells)
     → (cells : List RawCell) → EachFour cells → (rows sorted : List (Row (List ℕ)))
-    → AllZip IsRow rows (placed 0 (map (λ cell. pieces cell.corners) cells)) → IsPermutation rows sorted
+    → AllZip IsRow rows (with_cell_index 0 (map (λ cell. pieces cell.corners) cells)) → IsPermutation rows sorted
     → IsSorted (row_order (slice_cmp nat_cmp)) sorted
-    → reduce min (repeats (pointwise eqb) back sorted) ≡ first_true 0 (along test [] (corners_of cells))
+    → reduce min (repeated_indices (pointwise eqb) back sorted) ≡ first_true 0 (along test [] (corners_of cells))
 table_is few back e pieces are test tests cells a rows sorted z p s =
     let own = λ (cell : RawCell). pieces cell.corners in
     let four = λ (cell : RawCell). AreCorners cell.corners in
@@ -180,19 +180,19 @@ table_is few back e pieces are test tests cells a rows sorted z p s =
     let each = all_map ArePieces own cells of_own in
     let corners = all_map AreCorners (λ (cell : RawCell). cell.corners) cells a in
     least_repeat_is few back e (map own cells) each rows sorted z p s (pointwise eqb) (λ x y. sym (is_eq-slice_cmp x y))
-    ∙ ap (λ all. first_true 0 (along (again few) [] all)) (sym (map_map pieces (λ (cell : RawCell). cell.corners) cells))
+    ∙ ap (λ all. first_true 0 (along (item_passes few) [] all)) (sym (map_map pieces (λ (cell : RawCell). cell.corners) cells))
     ∙ ap (λ all. first_true 0 all) (tests (corners_of cells) corners)
 
 -- the first cell that comes again
 pub twice_is : (cells : List RawCell) → AllByRecursion (λ cell. AreCorners cell.corners) cells → (rows sorted : List (Row (List ℕ)))
-    → AllZip IsRow rows (placed 0 (map (λ cell. alone cell.corners) cells)) → IsPermutation rows sorted
+    → AllZip IsRow rows (with_cell_index 0 (map (λ cell. single_piece cell.corners) cells)) → IsPermutation rows sorted
     → IsSorted (row_order (slice_cmp nat_cmp)) sorted
-    → reduce min (repeats (pointwise eqb) 1 sorted) ≡ first_true 0 (along repeats_earlier [] (map (λ cell. cell.corners) cells))
-twice_is = table_is 0 1 refl alone alone_pieces repeats_earlier along_alone
+    → reduce min (repeated_indices (pointwise eqb) 1 sorted) ≡ first_true 0 (along repeats_earlier [] (map (λ cell. cell.corners) cells))
+twice_is = table_is 0 1 refl single_piece single_pieces repeats_earlier along_single_piece
 
 -- the first that is the third with some face
 pub third_is : (cells : List RawCell) → AllByRecursion (λ cell. AreCorners cell.corners) cells → (rows sorted : List (Row (List ℕ)))
-    → AllZip IsRow rows (placed 0 (map (λ cell. induced_cycles cell.corners) cells)) → IsPermutation rows sorted
+    → AllZip IsRow rows (with_cell_index 0 (map (λ cell. induced_cycles cell.corners) cells)) → IsPermutation rows sorted
     → IsSorted (row_order (slice_cmp nat_cmp)) sorted
-    → reduce min (repeats (pointwise eqb) 2 sorted) ≡ first_true 0 (along is_third [] (map (λ cell. cell.corners) cells))
+    → reduce min (repeated_indices (pointwise eqb) 2 sorted) ≡ first_true 0 (along is_third [] (map (λ cell. cell.corners) cells))
 third_is = table_is 1 2 refl induced_cycles (of_four (λ corners. ArePieces (induced_cycles corners)) faces_differ) is_third along_faces

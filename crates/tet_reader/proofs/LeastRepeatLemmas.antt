@@ -13,13 +13,13 @@ use Rattle.std.proofs.lemmas.List.Sorted.{list_any-IsPermutation, sum_by-IsPermu
 use Rattle.std.proofs.lemmas.Map.Keys.{IsDistinct-cons, IsDistinct-head, IsDistinct-tail, IsDistinct-IsPermutation}
 use Rattle.liszt_base.specs.Corners.{is_in, same_members, are_different, along}
 use Rattle.tet_reader.specs.declared.misfit.Row.{Row}
-use Rattle.tet_reader.specs.Misfits.{first_true}
-use Rattle.tet_reader.specs.Repeats.{repeats, placed, IsRow}
-use Rattle.tet_reader.proofs.Faces.{count_more}
-use Rattle.tet_reader.proofs.Keys.{one_key}
-use Rattle.tet_reader.proofs.Placed.{one_least, least_of, reduce_least, any_same, is_earlier, again}
-use Rattle.tet_reader.proofs.Placed.{has_earlier, least_again}
-use Rattle.tet_reader.proofs.Repeats.{row_order, row_order_total, is_before, AreInOrder, has_before, repeats_are}
+use Rattle.tet_reader.specs.Internal.FirstMisfit.{first_true}
+use Rattle.tet_reader.specs.Internal.RepeatedRows.{repeated_indices, with_cell_index, IsRow}
+use Rattle.tet_reader.proofs.FaceLemmas.{count_more}
+use Rattle.tet_reader.proofs.KeyLemmas.{one_key}
+use Rattle.tet_reader.proofs.CellIndexLemmas.{one_least, least_of, reduce_least, any_same, is_earlier, item_passes}
+use Rattle.tet_reader.proofs.CellIndexLemmas.{has_earlier, least_passes}
+use Rattle.tet_reader.proofs.RepeatLemmas.{row_order, row_order_total, is_before, AreInOrder, has_before, repeats_are}
 
 -- ---- rows and pieces
 
@@ -121,11 +121,11 @@ pub record ArePieces (pieces : List (List ℕ)) : Type 0 where
 apart_in_front : (start : ℕ) (pieces : List (List ℕ)) (others : List (List ℕ × ℕ)) → IsDistinct same_members pieces
     → AllByRecursion (λ other. start < other.1) others → IsDistinct is_piece others
     → IsDistinct is_piece (map (λ piece. (piece, start)) pieces ++ others)
-apart_in_front start [] others d behind e = e
-apart_in_front start (piece ∷ pieces) others d behind e =
+apart_in_front start [] others d row_after_header e = e
+apart_in_front start (piece ∷ pieces) others d row_after_header e =
     IsDistinct-cons is_piece (piece, start) (map (λ x. (x, start)) pieces ++ others)
     (out pieces (IsDistinct-head same_members piece pieces d))
-    (apart_in_front start pieces others (IsDistinct-tail same_members piece pieces d) behind e)
+    (apart_in_front start pieces others (IsDistinct-tail same_members piece pieces d) row_after_header e)
   where
     past : (more : List (List ℕ × ℕ)) → AllByRecursion (λ other. start < other.1) more
         → AllByRecursion (λ y. is_piece (piece, start) y ≡ false) more
@@ -136,7 +136,7 @@ apart_in_front start (piece ∷ pieces) others d behind e =
 
     out : (xs : List (List ℕ)) → AllByRecursion (λ x. same_members piece x ≡ false) xs
         → AllByRecursion (λ y. is_piece (piece, start) y ≡ false) (map (λ x. (x, start)) xs ++ others)
-    out [] h = past others behind
+    out [] h = past others row_after_header
     out (x ∷ xs) h = (and_left (same_members piece x) (start == start) h.0, out xs h.1)
 
 -- what holds of each, of both lists joined, of values, of all there is, and what follows from it
@@ -157,28 +157,28 @@ all_weaker P Q [] f h = tt
 all_weaker P Q (x ∷ xs) f h = (f x h.0, all_weaker P Q xs f h.1)
 
 -- pieces placed from a number on have no lesser place
-placed_from : (start : ℕ) (cells : List (List (List ℕ))) → AllByRecursion (λ other. start ≤ other.1) (placed start cells)
-placed_from start [] = tt
-placed_from start (pieces ∷ cells) =
-    all_append (λ other. start ≤ other.1) (map (λ piece. (piece, start)) pieces) (placed (start + 1) cells)
+with_cell_index_from : (start : ℕ) (cells : List (List (List ℕ))) → AllByRecursion (λ other. start ≤ other.1) (with_cell_index start cells)
+with_cell_index_from start [] = tt
+with_cell_index_from start (pieces ∷ cells) =
+    all_append (λ other. start ≤ other.1) (map (λ piece. (piece, start)) pieces) (with_cell_index (start + 1) cells)
     (all_map (λ other. start ≤ other.1) (λ piece. (piece, start)) pieces (all_true (λ piece. start ≤ start) pieces (λ x. omega arith)))
-    (all_weaker (λ other. start + 1 ≤ other.1) (λ other. start ≤ other.1) (placed (start + 1) cells) (λ x l. omega (arith, l))
-    (placed_from (start + 1) cells))
+    (all_weaker (λ other. start + 1 ≤ other.1) (λ other. start ≤ other.1) (with_cell_index (start + 1) cells) (λ x l. omega (arith, l))
+    (with_cell_index_from (start + 1) cells))
 
 -- no two pieces are one, and each is of different corners
-pieces_apart : (start : ℕ) (cells : List (List (List ℕ))) → AllByRecursion ArePieces cells → IsDistinct is_piece (placed start cells)
+pieces_apart : (start : ℕ) (cells : List (List (List ℕ))) → AllByRecursion ArePieces cells → IsDistinct is_piece (with_cell_index start cells)
 unfolding IsDistinct
 pieces_apart start [] h = tt
 pieces_apart start (pieces ∷ cells) h =
-    let more = placed (start + 1) cells in
-    let behind = all_weaker (λ x. start + 1 ≤ x.1) (λ x. start < x.1) more (λ x l. omega (arith, l)) (placed_from (start + 1) cells) in
-    apart_in_front start pieces more h.0.apart behind (pieces_apart (start + 1) cells h.1)
+    let more = with_cell_index (start + 1) cells in
+    let row_after_header = all_weaker (λ x. start + 1 ≤ x.1) (λ x. start < x.1) more (λ x l. omega (arith, l)) (with_cell_index_from (start + 1) cells) in
+    apart_in_front start pieces more h.0.apart row_after_header (pieces_apart (start + 1) cells h.1)
 
 pieces_differ : (start : ℕ) (cells : List (List (List ℕ))) → AllByRecursion ArePieces cells
-    → AllByRecursion (λ piece. are_different piece.0 ≡ true) (placed start cells)
+    → AllByRecursion (λ piece. are_different piece.0 ≡ true) (with_cell_index start cells)
 pieces_differ start [] h = tt
 pieces_differ start (pieces ∷ cells) h =
-    all_append (λ piece. are_different piece.0 ≡ true) (map (λ piece. (piece, start)) pieces) (placed (start + 1) cells)
+    all_append (λ piece. are_different piece.0 ≡ true) (map (λ piece. (piece, start)) pieces) (with_cell_index (start + 1) cells)
     (all_map (λ piece. are_different piece.0 ≡ true) (λ piece. (piece, start)) pieces h.0.different) (pieces_differ (start + 1) cells h.1)
 
 -- so rows of those pieces fit them
@@ -193,29 +193,29 @@ rows_fit (row ∷ rows) (piece ∷ pieces) z h = ((z.0, h.0), rows_fit rows piec
 
 -- The least repeat of the sorted rows is the first cell one of whose pieces more than so many earlier ones have.
 pub least_repeat_is : (few back : ℕ) → back ≡ suc few → (cells : List (List (List ℕ))) → AllByRecursion ArePieces cells
-    → (rows sorted : List (Row (List ℕ))) → AllZip IsRow rows (placed 0 cells) → IsPermutation rows sorted
+    → (rows sorted : List (Row (List ℕ))) → AllZip IsRow rows (with_cell_index 0 cells) → IsPermutation rows sorted
     → IsSorted (row_order key_order) sorted → (same : List ℕ → List ℕ → Bool) → ((x y : List ℕ) → same x y ≡ is_eq (key_order x y))
-    → reduce min (repeats same back sorted) ≡ first_true 0 (along (again few) [] cells)
+    → reduce min (repeated_indices same back sorted) ≡ first_true 0 (along (item_passes few) [] cells)
 least_repeat_is few back e cells h rows sorted z p s same same_is =
-    one_least (has_earlier few (placed 0 cells)) found (first_true 0 (along (again few) [] cells))
-    (least_of (is_in (repeats same back sorted)) (has_earlier few (placed 0 cells)) found each (reduce_least (repeats same back sorted)))
-    (least_again few cells)
+    one_least (has_earlier few (with_cell_index 0 cells)) found (first_true 0 (along (item_passes few) [] cells))
+    (least_of (is_in (repeated_indices same back sorted)) (has_earlier few (with_cell_index 0 cells)) found each (reduce_least (repeated_indices same back sorted)))
+    (least_passes few cells)
   where
     found : Option ℕ
-    found = reduce min (repeats same back sorted)
+    found = reduce min (repeated_indices same back sorted)
 
-    fit : AllZip Fits rows (placed 0 cells)
-    fit = rows_fit rows (placed 0 cells) z (pieces_differ 0 cells h)
+    fit : AllZip Fits rows (with_cell_index 0 cells)
+    fit = rows_fit rows (with_cell_index 0 cells) z (pieces_differ 0 cells h)
 
     order : AreInOrder key_order sorted
     order =
         let flips = (eq_by_cmp_equiv (row_order_total nat_list_cmp_total)).symm in
-        let apart = rows_apart rows (placed 0 cells) fit (pieces_apart 0 cells h) in
+        let apart = rows_apart rows (with_cell_index 0 cells) fit (pieces_apart 0 cells h) in
         let still = IsDistinct-IsPermutation (eq_by_cmp (row_order key_order)) flips rows sorted p apart in
         record { total = nat_list_cmp_total; sorted = s; apart = still }
 
-    each : (place : ℕ) → is_in (repeats same back sorted) place ≡ has_earlier few (placed 0 cells) place
+    each : (place : ℕ) → is_in (repeated_indices same back sorted) place ≡ has_earlier few (with_cell_index 0 cells) place
     each place =
         repeats_are order same same_is few back e place
         ∙ has_before_moved few rows sorted p place
-        ∙ has_before_is few rows (placed 0 cells) fit place
+        ∙ has_before_is few rows (with_cell_index 0 cells) fit place

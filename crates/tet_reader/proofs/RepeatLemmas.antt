@@ -15,9 +15,9 @@ use Rattle.std.proofs.lemmas.Slice.Zip.{length-zip, get_or-zip}
 use Rattle.std.proofs.lemmas.Map.Keys.{sorted_from_all_adjacent, Less-from_sorted, apart_from_distinct}
 use Rattle.liszt_base.specs.Corners.{is_in}
 use Rattle.tet_reader.specs.declared.misfit.Row.{Row}
-use Rattle.tet_reader.specs.Repeats.{repeats}
-use Rattle.tet_reader.proofs.Faces.{count_more}
-use Rattle.tet_reader.proofs.Keys.{bool_is}
+use Rattle.tet_reader.specs.Internal.RepeatedRows.{repeated_indices}
+use Rattle.tet_reader.proofs.FaceLemmas.{count_more}
+use Rattle.tet_reader.proofs.KeyLemmas.{bool_is}
 
 -- ---- counts by places
 
@@ -140,7 +140,7 @@ before_earlier {K} {R} {rows} h k j d l m =
       | inr e ↦ rw (e.0, lt-ltb (get_or rows k d).place (get_or rows j d).place e.1) refl
     ]
 
--- and none of those behind it
+-- and none of those after it
 before_later : {K : Type 0} {R : K → K → Ordering} {rows : List (Row K)} → AreInOrder R rows → (k j : ℕ) (d : Row K) → j ≤ k
     → k < length rows → is_before R (get_or rows j d) (get_or rows k d) ≡ false
 before_later {K} {R} {rows} h k j d l m =
@@ -197,9 +197,9 @@ uncounted {K} {R} {rows} h few j d l c = elim (cases_lt few j) [
       | inr ge ↦ absurd (both_ways (is_before R (get_or rows j d) (get_or rows k d)) (before_later h k j d ge m) e)
     ]
 
-    behind : (i k : ℕ) → i < j → k < j → is_eq (R (get_or rows i d).key (get_or rows j d).key) ≡ false
+    row_after_header : (i k : ℕ) → i < j → k < j → is_eq (R (get_or rows i d).key (get_or rows j d).key) ≡ false
         → is_before R (get_or rows j d) (get_or rows k d) ≡ true → suc i ≤ k
-    behind i k a b other e = elim (cases_lt i k) [
+    row_after_header i k a b other e = elim (cases_lt i k) [
       | inl lt ↦ lt
       | inr ge ↦
           let same = equal_is (R (get_or rows k d).key (get_or rows j d).key) (sym (before_earlier h k j d b l) ∙ e) in
@@ -210,7 +210,7 @@ uncounted {K} {R} {rows} h few j d l c = elim (cases_lt few j) [
     too_many : (i : ℕ) → i + suc few ≡ j → is_eq (R (get_or rows i d).key (get_or rows j d).key) ≡ false → ⊥
     too_many i s other =
         let each : (k : ℕ) → k < length rows → is_before R (get_or rows j d) (get_or rows k d) ≡ true → (suc i ≤ k) × (k < suc i + few) =
-        λ k m e. let f = in_front k m e in (behind i k (omega arith) f other e, omega arith) in
+        λ k m e. let f = in_front k m e in (row_after_header i k (omega arith) f other e, omega arith) in
         let most = at_most (is_before R (get_or rows j d)) rows d (suc i) few each in
         omega arith
 
@@ -221,16 +221,16 @@ abbrev pub has_before : {K : Type 0} → (K → K → Ordering) → ℕ → List
 has_before R few rows place = list_any (λ row. (row.place == place) && nat_lt few (count_by (is_before R row) rows)) rows
 
 -- a number among the values of what is kept
-in_kept : {A : Type 0} (f : A → ℕ) (p : A → Bool) (xs : List A) (v : ℕ)
+in_included : {A : Type 0} (f : A → ℕ) (p : A → Bool) (xs : List A) (v : ℕ)
     → is_in (map f (filter p xs)) v ≡ list_any (λ x. p x && (f x == v)) xs
-in_kept f p [] v = refl
-in_kept {A} f p (x ∷ xs) v = go (p x) (in_kept f p xs v) where
+in_included f p [] v = refl
+in_included {A} f p (x ∷ xs) v = go (p x) (in_included f p xs v) where
   go : (b : Bool) → is_in (map f (filter p xs)) v ≡ list_any (λ y. p y && (f y == v)) xs
       → is_in (map f (cond b (x ∷ filter p xs) (filter p xs))) v ≡ ((b && (f x == v)) || list_any (λ y. p y && (f y == v)) xs)
   go true e = ap (λ t. (f x == v) || t) e
   go false e = e
 
--- the pair of a row and the row so many behind it
+-- the pair of a row and the row so many after it
 pair_at : {A : Type 0} (xs : List A) (back i j : ℕ) (d : A) → i + back ≡ j → j < length xs
     → get_or (zip xs (drop back xs)) i (d, d) ≡ (get_or xs i d, get_or xs j d)
 pair_at xs back i j d s l =
@@ -249,10 +249,10 @@ length_of_pairs xs back i l = omega (arith, length-zip xs (drop back xs), length
 -- the places of repeats are those of the rows with so many rows before them
 pub repeats_are : {K : Type 0} {R : K → K → Ordering} {rows : List (Row K)} → AreInOrder R rows → (same : K → K → Bool)
     → ((x y : K) → same x y ≡ is_eq (R x y)) → (few back : ℕ) → back ≡ suc few → (place : ℕ)
-    → is_in (repeats same back rows) place ≡ has_before R few rows place
+    → is_in (repeated_indices same back rows) place ≡ has_before R few rows place
 repeats_are {K} {R} {rows} h same same_is few back back_is place =
-    in_kept (λ pair. pair.1.place) (λ pair. same pair.0.key pair.1.key) (zip rows (drop back rows)) place
-    ∙ bool_is (list_any repeated (zip rows (drop back rows))) (has_before R few rows place) there back_again
+    in_included (λ pair. pair.1.place) (λ pair. same pair.0.key pair.1.key) (zip rows (drop back rows)) place
+    ∙ bool_is (list_any repeated (zip rows (drop back rows))) (has_before R few rows place) there back_passes
   where
     repeated : Row K × Row K → Bool
     repeated pair = same pair.0.key pair.1.key && (pair.1.place == place)
@@ -280,8 +280,8 @@ repeats_are {K} {R} {rows} h same same_is few back back_is place =
         let t = subst (λ x. repeated x ≡ true) (sym a.3 ∙ is) a.4 in
         list_any_at counts rows (a.0 + back) d l (at_pair a.0 (a.0 + back) d refl l t)
 
-    back_again : has_before R few rows place ≡ true → list_any repeated (zip rows (drop back rows)) ≡ true
-    back_again e =
+    back_passes : has_before R few rows place ≡ true → list_any repeated (zip rows (drop back rows)) ≡ true
+    back_passes e =
         let a = Any-from_list_any counts rows e in
         let d : Row K = a.1 in
         let y = get_or rows a.0 d in

@@ -7,9 +7,9 @@ use Rattle.std.proofs.lemmas.Bool.{both_ways, and_from, and_left, and_right, or_
 use Rattle.std.proofs.lemmas.List.Folds.{list_any-append}
 use Rattle.std.proofs.lemmas.List.Sums.{sum_by-append}
 use Rattle.liszt_base.specs.Corners.{is_in, same_members, along}
-use Rattle.tet_reader.specs.Misfits.{first_true}
-use Rattle.tet_reader.specs.Repeats.{placed}
-use Rattle.tet_reader.proofs.Faces.{count_more, count_none}
+use Rattle.tet_reader.specs.Internal.FirstMisfit.{first_true}
+use Rattle.tet_reader.specs.Internal.RepeatedRows.{with_cell_index}
+use Rattle.tet_reader.proofs.FaceLemmas.{count_more, count_none}
 
 -- ---- least numbers
 
@@ -121,17 +121,17 @@ held corners [] = 0
 held corners (pieces ∷ cells) = count_by (λ piece. same_members piece corners) pieces + held corners cells
 
 -- some piece of the cell is one of more than so many earlier ones
-abbrev pub again : ℕ → List (List (List ℕ)) → List (List ℕ) → Bool
-again few earlier pieces = list_any (λ piece. nat_lt few (held piece earlier)) pieces
+abbrev pub item_passes : ℕ → List (List (List ℕ)) → List (List ℕ) → Bool
+item_passes few earlier pieces = list_any (λ piece. nat_lt few (held piece earlier)) pieces
 
 -- pieces from a place on are not earlier than it
 none_earlier : (corners : List ℕ) (place start : ℕ) (cells : List (List (List ℕ))) → place ≤ start
-    → count_by (is_earlier (corners, place)) (placed start cells) ≡ 0
+    → count_by (is_earlier (corners, place)) (with_cell_index start cells) ≡ 0
 none_earlier corners place start [] l = refl
 none_earlier corners place start (pieces ∷ cells) l =
     let test = is_earlier (corners, place) in
     let here = λ (piece : List ℕ). and_right (same_members piece corners) (nat_lt start place) (le-ltb start place l) in
-    count_append test (map (λ piece. (piece, start)) pieces) (placed (start + 1) cells)
+    count_append test (map (λ piece. (piece, start)) pieces) (with_cell_index (start + 1) cells)
     ∙ cc (
       count_map test (λ piece. (piece, start)) pieces,
       count_none (λ piece. test (piece, start)) pieces here,
@@ -140,13 +140,13 @@ none_earlier corners place start (pieces ∷ cells) l =
 
 -- those in front of a place are
 all_earlier : (corners : List ℕ) (place start : ℕ) (before after : List (List (List ℕ))) → place ≡ start + length before
-    → count_by (is_earlier (corners, place)) (placed start (before ++ after)) ≡ held corners before
+    → count_by (is_earlier (corners, place)) (with_cell_index start (before ++ after)) ≡ held corners before
 all_earlier corners place start [] after e = none_earlier corners place start after (omega (arith, e))
 all_earlier corners place start (pieces ∷ before) after e =
     let test = is_earlier (corners, place) in
     let lt : start < place = omega (arith, e) in
     let here = λ (piece : List ℕ). and_true (same_members piece corners) (nat_lt start place) (lt-ltb start place lt) in
-    count_append test (map (λ piece. (piece, start)) pieces) (placed (start + 1) (before ++ after))
+    count_append test (map (λ piece. (piece, start)) pieces) (with_cell_index (start + 1) (before ++ after))
     ∙ cc (
       count_map test (λ piece. (piece, start)) pieces,
       count_same (λ piece. test (piece, start)) (λ piece. same_members piece corners) pieces here,
@@ -161,14 +161,14 @@ stands_at test place piece = (piece.1 == place) && test piece
 
 -- there is no piece in front of the first place
 none_below : (test : List ℕ × ℕ → Bool) (start place : ℕ) (cells : List (List (List ℕ))) → place < start
-    → list_any (stands_at test place) (placed start cells) ≡ false
+    → list_any (stands_at test place) (with_cell_index start cells) ≡ false
 none_below test start place [] l = refl
 none_below test start place (pieces ∷ cells) l =
     let ne : start ≢ place = omega arith in
     let here = λ (piece : List ℕ). and_left (start == place) (test (piece, start)) (ne_eqb start place ne) in
     let front : List (List ℕ × ℕ) = map (λ piece. (piece, start)) pieces in
-    list_any-append (stands_at test place) front (placed (start + 1) cells)
-    ∙ or_from (list_any (stands_at test place) front) (list_any (stands_at test place) (placed (start + 1) cells))
+    list_any-append (stands_at test place) front (with_cell_index (start + 1) cells)
+    ∙ or_from (list_any (stands_at test place) front) (list_any (stands_at test place) (with_cell_index (start + 1) cells))
     (any_map (stands_at test place) (λ piece. (piece, start)) pieces ∙ any_none (λ piece. stands_at test place (piece, start)) pieces here)
     (none_below test (start + 1) place cells (omega arith))
 
@@ -181,40 +181,40 @@ Agrees test said cells =
 -- one more cell
 least_step : (test : List ℕ × ℕ → Bool) (place : ℕ) (pieces : List (List ℕ)) (rest : List (List (List ℕ))) (b : Bool) (tests : List Bool)
     → list_any (λ piece. test (piece, place)) pieces ≡ b
-    → IsLeast (λ m. list_any (stands_at test m) (placed (place + 1) rest)) (first_true (place + 1) tests)
-    → IsLeast (λ m. list_any (stands_at test m) (placed place (pieces ∷ rest))) (first_true place (b ∷ tests))
+    → IsLeast (λ m. list_any (stands_at test m) (with_cell_index (place + 1) rest)) (first_true (place + 1) tests)
+    → IsLeast (λ m. list_any (stands_at test m) (with_cell_index place (pieces ∷ rest))) (first_true place (b ∷ tests))
 least_step test place pieces rest b tests e more = go b e more where
   here : Bool
   here = list_any (λ piece. test (piece, place)) pieces
 
-  behind : ℕ → Bool
-  behind m = list_any (stands_at test m) (placed (place + 1) rest)
+  row_after_header : ℕ → Bool
+  row_after_header m = list_any (stands_at test m) (with_cell_index (place + 1) rest)
 
   all : ℕ → Bool
-  all m = list_any (stands_at test m) (placed place (pieces ∷ rest))
+  all m = list_any (stands_at test m) (with_cell_index place (pieces ∷ rest))
 
-  parted : (m : ℕ) → all m ≡ (((place == m) && here) || behind m)
+  parted : (m : ℕ) → all m ≡ (((place == m) && here) || row_after_header m)
   parted m =
-      list_any-append (stands_at test m) (map (λ piece. (piece, place)) pieces) (placed (place + 1) rest)
-      ∙ ap (λ t. t || behind m) (any_map (stands_at test m) (λ piece. (piece, place)) pieces)
-      ∙ ap (λ t. t || behind m) (any_and (place == m) (λ piece. test (piece, place)) pieces)
+      list_any-append (stands_at test m) (map (λ piece. (piece, place)) pieces) (with_cell_index (place + 1) rest)
+      ∙ ap (λ t. t || row_after_header m) (any_map (stands_at test m) (λ piece. (piece, place)) pieces)
+      ∙ ap (λ t. t || row_after_header m) (any_and (place == m) (λ piece. test (piece, place)) pieces)
 
-  go : (b : Bool) → here ≡ b → IsLeast behind (first_true (place + 1) tests) → IsLeast all (first_true place (b ∷ tests))
+  go : (b : Bool) → here ≡ b → IsLeast row_after_header (first_true (place + 1) tests) → IsLeast all (first_true place (b ∷ tests))
   go true e more = (
-    parted place ∙ or_left ((place == place) && here) (behind place) (and_from (place == place) here (eq-eqb place place refl) e),
+    parted place ∙ or_left ((place == place) && here) (row_after_header place) (and_from (place == place) here (eq-eqb place place refl) e),
     λ n t. elim (cases_lt n place) [
       | inl lt ↦ absurd (both_ways (all n) (none_below test place n (pieces ∷ rest) lt) t)
       | inr ge ↦ ge
     ],
   )
   go false e more =
-      let same = λ (n : ℕ). sym (parted n ∙ ap (λ t. t || behind n) (and_right (place == n) here e)) in
-      least_of behind all (first_true (place + 1) tests) same more
+      let same = λ (n : ℕ). sym (parted n ∙ ap (λ t. t || row_after_header n) (and_right (place == n) here e)) in
+      least_of row_after_header all (first_true (place + 1) tests) same more
 
 -- then the least place of a piece that passes is the first cell's of which the other is true
 least_along : (test : List ℕ × ℕ → Bool) (said : List (List (List ℕ)) → List (List ℕ) → Bool) (all : List (List (List ℕ)))
     → Agrees test said all → (before rest : List (List (List ℕ))) → all ≡ before ++ rest → (place : ℕ) → place ≡ length before
-    → IsLeast (λ m. list_any (stands_at test m) (placed place rest)) (first_true place (along said before rest))
+    → IsLeast (λ m. list_any (stands_at test m) (with_cell_index place rest)) (first_true place (along said before rest))
 least_along test said all h before [] e place p = λ n. refl
 least_along test said all h before (pieces ∷ rest) e place p =
     let this = ap (λ m. list_any (λ piece. test (piece, m)) pieces) p ∙ h before pieces rest e in
@@ -228,19 +228,19 @@ abbrev pub has_earlier : ℕ → List (List ℕ × ℕ) → ℕ → Bool
 has_earlier few pieces place = list_any (λ piece. (piece.1 == place) && nat_lt few (count_by (is_earlier piece) pieces)) pieces
 
 -- is that of the first cell of which it is true
-pub least_again : (few : ℕ) (cells : List (List (List ℕ)))
-    → IsLeast (has_earlier few (placed 0 cells)) (first_true 0 (along (again few) [] cells))
-least_again few cells = least_along test (again few) cells agrees [] cells refl 0 refl where
+pub least_passes : (few : ℕ) (cells : List (List (List ℕ)))
+    → IsLeast (has_earlier few (with_cell_index 0 cells)) (first_true 0 (along (item_passes few) [] cells))
+least_passes few cells = least_along test (item_passes few) cells agrees [] cells refl 0 refl where
   test : List ℕ × ℕ → Bool
-  test piece = nat_lt few (count_by (is_earlier piece) (placed 0 cells))
+  test piece = nat_lt few (count_by (is_earlier piece) (with_cell_index 0 cells))
 
   count : (before : List (List (List ℕ))) (pieces : List (List ℕ)) (after : List (List (List ℕ))) → cells ≡ before ++ pieces ∷ after
       → (piece : List ℕ) → test (piece, length before) ≡ nat_lt few (held piece before)
   count before pieces after e piece = ap (λ n. nat_lt few n) (
-      ap (λ l. count_by (is_earlier (piece, length before)) (placed 0 l)) e
+      ap (λ l. count_by (is_earlier (piece, length before)) (with_cell_index 0 l)) e
       ∙ all_earlier piece (length before) 0 before (pieces ∷ after) (omega arith)
       )
 
-  agrees : Agrees test (again few) cells
+  agrees : Agrees test (item_passes few) cells
   agrees before pieces after e =
       any_same (λ piece. test (piece, length before)) (λ piece. nat_lt few (held piece before)) pieces (count before pieces after e)

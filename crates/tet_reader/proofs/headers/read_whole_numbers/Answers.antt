@@ -2,10 +2,10 @@ use Rattle.std.proofs.Common.{ap, sym, subst, ◌∙◌, ◌+◌, ◌++◌, ◌�
 use Rattle.std.specs.Prelude.{ℤ}
 use Rattle.std.proofs.lemmas.Int.{to_z-of_z}
 use mir.Syntax.{w64}
-use Rattle.text_scan.specs.Tables.{row_at}
-use Rattle.text_scan.proofs.Ranges.{whole_fits}
+use Rattle.text_scan.specs.Rows.{row_at}
+use Rattle.text_scan.proofs.RangeLemmas.{whole_fits}
 use Rattle.tet_reader.proofs.HeaderWords.{AreWhole, whole_read, whole_wrong}
-use Rattle.tet_reader.proofs.headers.read_wholes.Goals as goal
+use Rattle.tet_reader.proofs.headers.read_whole_numbers.Goals as goal
 
 pub returns-in-Err-clause-spelled : goal.returns-in-Err-clause-spelled
 returns-in-Err-clause-spelled c =
