@@ -1,8 +1,8 @@
-pub mod Accessing
-pub mod Doing
-pub mod Ending
-pub mod Keeping
-pub mod KeptLaws
-pub mod Loops
-pub mod Modes
-pub mod Shapes
+pub mod AccessLemmas
+pub mod ActLemmas
+pub mod ActModeLemmas
+pub mod ComputationLemmas
+pub mod LoopLemmas
+pub mod PreservationLemmas
+pub mod ShapeLemmas
+pub mod TypedEvaluationLemmas

@@ -6,7 +6,7 @@ use Rattle.liszt_base.specs.declared.elements.Kind.{Kind}
 use Rattle.liszt_base.specs.declared.elements.Kind.TheVariants.{Vertex, Cell}
 use Rattle.mesh_topology.specs.Elements.{count}
 use Rattle.phase_types.specs.Environments.{Environment, Binding, FieldName, ScalarName, binding_of, is_built_in}
-use Rattle.kernel_eval.specs.Kept.{field_values}
+use Rattle.kernel_eval.specs.Preservation.{field_values}
 use Rattle.kernel_eval.specs.States.{State, scalar_value}
 
 -- a built-in field, with its elements' kind

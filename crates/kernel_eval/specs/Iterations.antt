@@ -11,12 +11,12 @@ use Rattle.topo_operators.specs.Operators.{unflipped}
 use Rattle.phase_types.specs.Environments.{Comprehension}
 use Rattle.phase_types.specs.Walk.{OfScalar, mode_in}
 use Rattle.kernel_eval.specs.Outcomes.{Stop, Trapped, NoMeaning, Outcome, Done}
-use Rattle.kernel_eval.specs.States.{State, Act, Moment}
+use Rattle.kernel_eval.specs.States.{State, Act, EvaluationState}
 use Rattle.kernel_eval.specs.Meaning.{body_meaning}
 
 -- THE ITERATION of an element by its id, from a state, with so many turns: the name of the comprehension's elements is bound to it.
-abbrev pub opening : Comprehension → ℕ → State → ℕ → Moment
-opening c turns s id =
+abbrev pub iteration_start : Comprehension → ℕ → State → ℕ → EvaluationState
+iteration_start c turns s id =
     record {
       state = record s { turns = turns };
       elem = Some (unflipped c.over id);
@@ -26,8 +26,8 @@ opening c turns s id =
       folds = [];
     }
 
-abbrev pub iteration : MeshLists → Comprehension → ℕ → State → ℕ → Outcome Moment Done
-iteration mesh c turns s id = body_meaning mesh c.environment c.body (opening c turns s id)
+abbrev pub iteration : MeshLists → Comprehension → ℕ → State → ℕ → Outcome EvaluationState Done
+iteration mesh c turns s id = body_meaning mesh c.environment c.body (iteration_start c turns s id)
 
 -- its acts, in order, up to its end or trap
 abbrev pub acts : MeshLists → Comprehension → ℕ → State → ℕ → List Act
@@ -43,11 +43,11 @@ abbrev pub iteration_end : MeshLists → Comprehension → ℕ → State → ℕ
 iteration_end mesh c turns s id = end_of (iteration mesh c turns s id).answer
 
 -- what it reduces a scalar by, from the identity on, by the operator by which the comprehension reduces it, if it does
-abbrev pub folded_by : Option Mode → List ℤ → Option ℤ
-folded_by (Some (Reduce op)) values = Some (fold (folded op) (identity_of op) values)
-folded_by _ values = None
+abbrev pub reduced_value : Option Mode → List ℤ → Option ℤ
+reduced_value (Some (Reduce op)) values = Some (fold (folded op) (identity_of op) values)
+reduced_value _ values = None
 
 abbrev pub partial : MeshLists → Comprehension → ℕ → State → ℕ → ℕ → Option ℤ
 partial mesh c turns s id scalar =
-    folded_by (mode_in c (OfScalar scalar))
+    reduced_value (mode_in c (OfScalar scalar))
     (map (λ f. f.value) (filter (λ f. f.scalar == scalar) (iteration mesh c turns s id).after.folds))

@@ -1,7 +1,7 @@
-pub mod Cases
 pub mod Fits
+pub mod Internal
 pub mod Iterations
-pub mod Kept
 pub mod Meaning
 pub mod Outcomes
+pub mod Preservation
 pub mod States

@@ -12,31 +12,31 @@ pub record Outcome (S A : Type 0) : Type 0 where
   pub after : S
   pub answer : Result A Stop
 
-abbrev pub Doing : Type 0 → Type 0 → Type 0
-Doing S A = S → Outcome S A
+abbrev pub Computation : Type 0 → Type 0 → Type 0
+Computation S A = S → Outcome S A
 
 abbrev pub Done : Type 0
 Done = Unit {0}
 
-abbrev pub gives : {S A : Type 0} → A → S → Outcome S A
-gives value s = record { after = s; answer = Ok value }
+abbrev pub pure : {S A : Type 0} → A → S → Outcome S A
+pure value s = record { after = s; answer = Ok value }
 
-abbrev pub stops : {S A : Type 0} → Stop → S → Outcome S A
-stops stop s = record { after = s; answer = Err stop }
+abbrev pub halt : {S A : Type 0} → Stop → S → Outcome S A
+halt stop s = record { after = s; answer = Err stop }
 
-abbrev pub changes : {S : Type 0} → (S → S) → S → Outcome S (Unit {0})
-changes change s = gives (tt {0}) (change s)
+abbrev pub modify : {S : Type 0} → (S → S) → S → Outcome S (Unit {0})
+modify change s = pure (tt {0}) (change s)
 
-abbrev pub does_nothing : {S : Type 0} → S → Outcome S (Unit {0})
-does_nothing s = gives (tt {0}) s
+abbrev pub skip : {S : Type 0} → S → Outcome S (Unit {0})
+skip s = pure (tt {0}) s
 
 -- one thing, and with what it gave another, unless it stops
-abbrev pub go_on : {S A B : Type 0} → (A → S → Outcome S B) → S → Result A Stop → Outcome S B
-go_on next s (Ok value) = next value s
-go_on next s (Err stop) = stops stop s
+abbrev pub continue_with : {S A B : Type 0} → (A → S → Outcome S B) → S → Result A Stop → Outcome S B
+continue_with next s (Ok value) = next value s
+continue_with next s (Err stop) = halt stop s
 
 abbrev pub and_then : {S A B : Type 0} → (S → Outcome S A) → (A → S → Outcome S B) → S → Outcome S B
-and_then first next s = go_on next (first s).after (first s).answer
+and_then first next s = continue_with next (first s).after (first s).answer
 
 infixl 10 ◌>>=◌
 abbrev pub ◌>>=◌ : {S A B : Type 0} → (S → Outcome S A) → (A → S → Outcome S B) → S → Outcome S B
@@ -47,32 +47,32 @@ abbrev pub ◌>>◌ : {S A B : Type 0} → (S → Outcome S A) → (S → Outcom
 first >> next = and_then first (λ done. next)
 
 -- one of two, by a truth value
-abbrev pub either : {S A : Type 0} → Bool → (S → Outcome S A) → (S → Outcome S A) → S → Outcome S A
-either true this other = this
-either false this other = other
+abbrev pub if_then_else : {S A : Type 0} → Bool → (S → Outcome S A) → (S → Outcome S A) → S → Outcome S A
+if_then_else true this other = this
+if_then_else false this other = other
 
 -- something for each of a list, in its order
-abbrev pub each : {S X : Type 0} → (X → S → Outcome S (Unit {0})) → List X → S → Outcome S (Unit {0})
-each doing [] = does_nothing
-each doing (x ∷ xs) = doing x >> each doing xs
+abbrev pub for_each : {S X : Type 0} → (X → S → Outcome S (Unit {0})) → List X → S → Outcome S (Unit {0})
+for_each computation [] = skip
+for_each computation (x ∷ xs) = computation x >> for_each computation xs
 
 -- A LOOP: the test; where it is true, a turn is taken and the body is done, and then the loop again. Where it is true and no turn is
 -- left, `spent` is done. The loop ends for it takes turns, so the number is that of the turns left at its start; what no step raises can't pass it,
--- and it never shows (law `loops_go_on`).
+-- and it never shows (law `loops_unfold`).
 pub record Turns (S : Type 0) : Type 0 where
-  pub left : S → ℕ
-  pub leave : ℕ → S → S
+  pub remaining : S → ℕ
+  pub set_remaining : ℕ → S → S
 
-abbrev pub taking_a_turn : {S : Type 0} → Turns S → (S → Outcome S (Unit {0})) → (S → Outcome S (Unit {0})) → ℕ → S → Outcome S (Unit {0})
-taking_a_turn turns spent body zero s = spent s
-taking_a_turn turns spent body (suc n) s = body (turns.leave n s)
+abbrev pub take_turn : {S : Type 0} → Turns S → (S → Outcome S (Unit {0})) → (S → Outcome S (Unit {0})) → ℕ → S → Outcome S (Unit {0})
+take_turn turns spent body zero s = spent s
+take_turn turns spent body (suc n) s = body (turns.set_remaining n s)
 
 abbrev pub loop_within : {S : Type 0} → Turns S → (S → Outcome S (Unit {0})) → (S → Outcome S Bool) → (S → Outcome S (Unit {0})) → ℕ → S → Outcome S (Unit {0})
-loop_within turns spent test body zero = test >>= λ goes_on. either goes_on spent does_nothing
+loop_within turns spent test body zero = test >>= λ is_true. if_then_else is_true spent skip
 loop_within turns spent test body (suc n) =
-    test >>= λ goes_on. either goes_on
-    ((λ s. taking_a_turn turns spent body (turns.left s) s) >> loop_within turns spent test body n)
-    does_nothing
+    test >>= λ is_true. if_then_else is_true
+    ((λ s. take_turn turns spent body (turns.remaining s) s) >> loop_within turns spent test body n)
+    skip
 
 abbrev pub loop : {S : Type 0} → Turns S → (S → Outcome S (Unit {0})) → (S → Outcome S Bool) → (S → Outcome S (Unit {0})) → S → Outcome S (Unit {0})
-loop turns spent test body s = loop_within turns spent test body (turns.left s) s
+loop turns spent test body s = loop_within turns spent test body (turns.remaining s) s

@@ -10,8 +10,8 @@ use Rattle.liszt_base.specs.declared.elements.Op.{Op}
 use Rattle.phase_types.specs.Environments.{lookup}
 
 -- a finite map with another value at a key that it has
-abbrev pub replaced : {K A : Type 0} → (K → Bool) → A → List (K × A) → List (K × A)
-replaced is_key value entries = map (λ entry. if is_key entry.0 then (entry.0, value) else entry) entries
+abbrev pub map_update : {K A : Type 0} → (K → Bool) → A → List (K × A) → List (K × A)
+map_update is_key value entries = map (λ entry. if is_key entry.0 then (entry.0, value) else entry) entries
 
 -- FIELDS that are live, by their numbers, each with its values by id: a number for each spot of a live field. What was declared last
 -- comes first.
@@ -21,11 +21,11 @@ Fields = List (ℕ × List ℤ)
 abbrev pub value_in : Fields → Spot → Option ℤ
 value_in fields spot = option_and_then (λ values. slice_get values spot.id) (lookup (λ number. number == spot.field) fields)
 
-abbrev pub set_in : Spot → ℤ → ℕ × List ℤ → ℕ × List ℤ
-set_in spot value entry = if entry.0 == spot.field then (entry.0, slice_set entry.1 spot.id value) else entry
+abbrev pub updated_entry : Spot → ℤ → ℕ × List ℤ → ℕ × List ℤ
+updated_entry spot value entry = if entry.0 == spot.field then (entry.0, slice_set entry.1 spot.id value) else entry
 
 abbrev pub with_value : Spot → ℤ → Fields → Fields
-with_value spot value fields = map (set_in spot value) fields
+with_value spot value fields = map (updated_entry spot value) fields
 
 -- THE STATE: the live fields, the scalars by their numbers, what was declared last first, the numbers printed, and the turns left
 pub record State : Type 0 where
@@ -41,7 +41,7 @@ abbrev pub scalar_value : State → ℕ → Option ℤ
 scalar_value s number = lookup (λ other. other == number) s.scalars
 
 abbrev pub with_scalar_value : ℕ → ℤ → State → State
-with_scalar_value number value s = record s { scalars = replaced (λ other. other == number) value s.scalars }
+with_scalar_value number value s = record s { scalars = map_update (λ other. other == number) value s.scalars }
 
 -- ACTS: a spot is read, written, or reduced, with the value that was read, written, or reduced by
 pub record Act : Type 0 where
@@ -57,7 +57,7 @@ pub record ScalarFold : Type 0 where
 
 -- A MOMENT: the state; the iteration's element, or none in the main program; the names bound to elements, or nil, and the local
 -- numbers, what was declared last first; and all acts and reductions of scalars so far.
-pub record Moment : Type 0 where
+pub record EvaluationState : Type 0 where
   pub state : State
   pub elem : Option Elem
   pub elements : List (List ℕ × Option Elem)
@@ -65,35 +65,35 @@ pub record Moment : Type 0 where
   pub acts : List Act
   pub folds : List ScalarFold
 
-abbrev pub in_main : State → Moment
-in_main s = record { state = s; elem = None; elements = []; locals = []; acts = []; folds = [] }
+abbrev pub main_evaluation : State → EvaluationState
+main_evaluation s = record { state = s; elem = None; elements = []; locals = []; acts = []; folds = [] }
 
-abbrev pub element_named : Moment → List ℕ → Option (Option Elem)
-element_named m name = lookup (bytes_eq name) m.elements
+abbrev pub element_bound_to : EvaluationState → List ℕ → Option (Option Elem)
+element_bound_to m name = lookup (bytes_eq name) m.elements
 
-abbrev pub local_named : Moment → List ℕ → Option ℤ
-local_named m name = lookup (bytes_eq name) m.locals
+abbrev pub local_bound_to : EvaluationState → List ℕ → Option ℤ
+local_bound_to m name = lookup (bytes_eq name) m.locals
 
-abbrev pub with_element : List ℕ → Option Elem → Moment → Moment
+abbrev pub with_element : List ℕ → Option Elem → EvaluationState → EvaluationState
 with_element name x m = record m { elements = (name, x) ∷ m.elements }
 
-abbrev pub with_local : List ℕ → ℤ → Moment → Moment
+abbrev pub with_local : List ℕ → ℤ → EvaluationState → EvaluationState
 with_local name value m = record m { locals = (name, value) ∷ m.locals }
 
-abbrev pub with_local_value : List ℕ → ℤ → Moment → Moment
-with_local_value name value m = record m { locals = replaced (bytes_eq name) value m.locals }
+abbrev pub with_local_value : List ℕ → ℤ → EvaluationState → EvaluationState
+with_local_value name value m = record m { locals = map_update (bytes_eq name) value m.locals }
 
-abbrev pub with_act : Act → Moment → Moment
+abbrev pub with_act : Act → EvaluationState → EvaluationState
 with_act act m = record m { acts = m.acts ++ act ∷ [] }
 
-abbrev pub with_fold : ScalarFold → Moment → Moment
+abbrev pub with_fold : ScalarFold → EvaluationState → EvaluationState
 with_fold folded m = record m { folds = m.folds ++ folded ∷ [] }
 
-abbrev pub with_state : State → Moment → Moment
+abbrev pub with_state : State → EvaluationState → EvaluationState
 with_state s m = record m { state = s }
 
 -- behind a block the names are those from before it, with the values that they have now
-abbrev pub after_block : Moment → Moment → Moment
+abbrev pub after_block : EvaluationState → EvaluationState → EvaluationState
 after_block before m =
     record m {
       elements = drop (length m.elements - length before.elements) m.elements;

@@ -13,40 +13,40 @@ ghost use Rattle.phase_types.specs.Typed.{ComprehensionFits};
 ghost use Rattle.phase_types.specs.Walk.{OfField, mode_in};
 ghost use Rattle.kernel_eval.specs.Fits.{StateFits};
 ghost use Rattle.kernel_eval.specs.Iterations.{acts, iteration, iteration_end};
-ghost use Rattle.kernel_eval.specs.Kept.{ChangesNothing, FoldsByTheMode, HasNoMoreTurns, HasTheMode, Keeps, MakesFields, field_values, loop_once};
-ghost use Rattle.kernel_eval.specs.Outcomes.{Stop, stops};
-ghost use Rattle.kernel_eval.specs.States.{Moment, State};
-ghost use Rattle.kernel_eval.specs.Meaning.{body_meaning, in_block, moment_turns, statement_meaning, traps, truth_in};
+ghost use Rattle.kernel_eval.specs.Preservation.{ChangesNothing, FoldsByTheMode, HasNoMoreTurns, HasTheMode, Preserves, ActsDetermineFields, field_values, loop_unfolded};
+ghost use Rattle.kernel_eval.specs.Outcomes.{Stop, halt};
+ghost use Rattle.kernel_eval.specs.States.{EvaluationState, State};
+ghost use Rattle.kernel_eval.specs.Meaning.{body_meaning, in_block, evaluation_turns, statement_meaning, trap, truth_in};
 
 /// Turns never rise, whatever a body does.
-pub fn turns_never_rise()
-    ensures { (mesh : MeshLists) (environment : Environment) (body : Body) → Keeps HasNoMoreTurns (body_meaning mesh environment body) }
+pub fn turns_do_not_increase()
+    ensures { (mesh : MeshLists) (environment : Environment) (body : Body) → Preserves HasNoMoreTurns (body_meaning mesh environment body) }
 {}
 
 /// The acts of a body tell all that it does to fields, also where it traps: what was there, with its writes and reductions one after the
 /// other, is what is there afterwards. So a field that no act writes or reduces stays as it was.
-pub fn acts_make_fields()
-    ensures { (mesh : MeshLists) (environment : Environment) (body : Body) → Keeps MakesFields (body_meaning mesh environment body) }
+pub fn acts_determine_fields()
+    ensures { (mesh : MeshLists) (environment : Environment) (body : Body) → Preserves ActsDetermineFields (body_meaning mesh environment body) }
 {}
 
 /// A `while` is its test, and where that is true a turn, its body in a block of its own, and then the same `while` again; where no turn is left it
 /// traps. So turns alone bound it.
-pub fn loops_go_on()
-    ensures { (mesh : MeshLists) (environment : Environment) (place : Place) (test : Expression) (body : Body) (m : Moment)
+pub fn loops_unfold()
+    ensures { (mesh : MeshLists) (environment : Environment) (place : Place) (test : Expression) (body : Body) (m : EvaluationState)
         → statement_meaning mesh environment (While place test body) m
-        ≡ loop_once moment_turns (traps Spent place) (truth_in mesh environment test) (in_block (body_meaning mesh environment body))
+        ≡ loop_unfolded evaluation_turns (trap Spent place) (truth_in mesh environment test) (in_block (body_meaning mesh environment body))
         (statement_meaning mesh environment (While place test body)) m }
 {}
 
 /// Nothing happens behind a statement that stops: what stands at its stop, with its acts so far, is what the body leaves.
-pub fn stops_end()
-    ensures { (mesh : MeshLists) (environment : Environment) (s : Statement) (rest : Body) (m : Moment) (stop : Stop)
+pub fn halt_ends_the_body()
+    ensures { (mesh : MeshLists) (environment : Environment) (s : Statement) (rest : Body) (m : EvaluationState) (stop : Stop)
         → (statement_meaning mesh environment s m).answer ≡ Err stop
-        → body_meaning mesh environment (statement s rest) m ≡ stops stop (statement_meaning mesh environment s m).after }
+        → body_meaning mesh environment (statement s rest) m ≡ halt stop (statement_meaning mesh environment s m).after }
 {}
 
 /// Each act of an iteration has the one mode in which its comprehension accesses the field, and each reduction of a scalar that of the scalar.
-pub fn acts_have_the_mode()
+pub fn acts_have_the_mode_of_their_subject()
     ensures acts { (mesh : MeshLists) (c : Comprehension) (turns : ℕ) (s : State) (id : ℕ) → ComprehensionFits c
         → AllByRecursion (HasTheMode c) (acts mesh c turns s id) }
     ensures folds { (mesh : MeshLists) (c : Comprehension) (turns : ℕ) (s : State) (id : ℕ) → ComprehensionFits c
@@ -54,7 +54,7 @@ pub fn acts_have_the_mode()
 {}
 
 /// A field that its comprehension doesn't access, or only reads, has the same values after an iteration as before, also where it traps.
-pub fn other_fields_stay()
+pub fn unaccessed_fields_are_unchanged()
     ensures { (mesh : MeshLists) (c : Comprehension) (turns : ℕ) (s : State) (id field : ℕ) → ComprehensionFits c
         → ChangesNothing (mode_in c (OfField field)) → field_values (iteration mesh c turns s id).after.state field ≡ field_values s field }
 {}

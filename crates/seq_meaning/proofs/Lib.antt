@@ -1,4 +1,4 @@
-pub mod Growing
-pub mod Meant
-pub mod Staying
-pub mod Turning
+pub mod IterationLemmas
+pub mod MainPreservationLemmas
+pub mod StateShapeLemmas
+pub mod TypedRunLemmas

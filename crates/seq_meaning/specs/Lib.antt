@@ -1,2 +1,2 @@
-pub mod Cases
+pub mod Internal
 pub mod Runs

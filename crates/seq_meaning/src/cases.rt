@@ -12,8 +12,8 @@ ghost use Rattle.liszt_base.specs.declared.elements.Op.TheVariants.{Add};
 ghost use Rattle.kernel_eval.specs.Iterations.{acts, end_of, iteration_end, partial};
 ghost use Rattle.phase_types.specs.Environments.{scopes_of};
 ghost use Rattle.mesh_topology.specs.Meshes.{one_cell, two_cells};
-ghost use Rattle.seq_meaning.specs.Cases.{acts_and_folds, adds_greatest, an_act, compares_nil, divides_for_nil, first_comprehension, first_state, locals_end, loop_divides, loops_of_iterations, nested_loops, scopes_of_branches, set_of_nil, with_prints, along_cycles, counts_in_iterations, counts_no_ends, counts_to, divides_by_ids, field_in_scope, heat, id_of_nil, least_id, no_cells, placed, reads_built_ins, sides_of_faces, traps_at_element, traps_in_main, wraps_and_traps, writes_heads, writes_twice};
-ghost use Rattle.seq_meaning.specs.Runs.{printed, ScopeOpened, ScopeClosed, FieldDeclared, ComprehensionMet, RunOver, fields_left, path_of, phases_of, prints_of, run_end};
+ghost use Rattle.seq_meaning.specs.Internal.Cases.{acts_and_folds, adds_greatest, an_act, compares_nil, divides_for_nil, first_comprehension, first_state, locals_end, loop_divides, loops_of_iterations, nested_loops, scopes_of_branches, set_of_nil, with_prints, along_cycles, counts_in_iterations, counts_no_ends, counts_to, divides_by_ids, field_in_scope, heat, id_of_nil, least_id, no_cells, placed, reads_built_ins, sides_of_faces, traps_at_element, traps_in_main, wraps_and_traps, writes_heads, writes_twice};
+ghost use Rattle.seq_meaning.specs.Runs.{print_number, ScopeOpened, ScopeClosed, FieldDeclared, ComprehensionReached, RunEnded, fields_left, path_of, phases_of, prints_of, run_end};
 
 /// The degree of each vertex of one cell and of two.
 fn degrees_of_vertices()
@@ -45,7 +45,7 @@ fn heat_flows()
 
 /// Traps with their places and elements: the id of nil, a division by zero in the first iteration that comes to it, and overflow after a
 /// sum that wrapped.
-fn traps()
+fn trap()
     ensures nil { run_end one_cell id_of_nil 0 ≡ traps_at_element NilElement 2 33 Face 0 }
     ensures division { run_end one_cell divides_by_ids 0 ≡ traps_at_element ZeroDivide 2 63 Edge 1 }
     ensures wrapped { prints_of one_cell wraps_and_traps 0 ≡ neg_ℤ (pos (2 ^ 63)) ∷ [] }
@@ -73,9 +73,9 @@ fn nothing_to_visit()
 fn paths()
     ensures path { map (λ entry. entry.event) (path_of two_cells field_in_scope 5)
         ≡ ScopeOpened 0 ∷ FieldDeclared 6 (pos 1)
-        ∷ ScopeOpened 1 ∷ FieldDeclared 7 (pos 2) ∷ ComprehensionMet 0 ∷ ScopeClosed 1
-        ∷ ScopeOpened 1 ∷ FieldDeclared 7 (pos 2) ∷ ComprehensionMet 0 ∷ ScopeClosed 1
-        ∷ RunOver IsDone ∷ [] }
+        ∷ ScopeOpened 1 ∷ FieldDeclared 7 (pos 2) ∷ ComprehensionReached 0 ∷ ScopeClosed 1
+        ∷ ScopeOpened 1 ∷ FieldDeclared 7 (pos 2) ∷ ComprehensionReached 0 ∷ ScopeClosed 1
+        ∷ RunEnded IsDone ∷ [] }
     ensures turns_left { map (λ entry. entry.at.turns) (path_of two_cells field_in_scope 5)
         ≡ 5 ∷ 5 ∷ 4 ∷ 4 ∷ 4 ∷ 4 ∷ 3 ∷ 3 ∷ 3 ∷ 3 ∷ 3 ∷ [] }
     ensures phases { map (λ phase. phase.1.fields) (phases_of two_cells field_in_scope 5)
@@ -128,13 +128,13 @@ fn acts_of_iterations()
 /// comprehension that traps leaves the state from before it.
 fn scopes()
     ensures numbers { map (λ entry. entry.event) (path_of one_cell scopes_of_branches 0)
-        ≡ ScopeOpened 0 ∷ ScopeOpened 3 ∷ ScopeClosed 3 ∷ ScopeOpened 4 ∷ ScopeClosed 4 ∷ RunOver IsDone ∷ [] }
+        ≡ ScopeOpened 0 ∷ ScopeOpened 3 ∷ ScopeClosed 3 ∷ ScopeOpened 4 ∷ ScopeClosed 4 ∷ RunEnded IsDone ∷ [] }
     ensures parents { scopes_of scopes_of_branches ≡ replicate 5 0 }
     ensures scalars { map (λ entry. entry.at.scalars) (path_of two_cells acts_and_folds 0) ≡ [] ∷ [] ∷ [] ∷ ((0, pos 0) ∷ []) ∷ ((0, pos 0) ∷ []) ∷ [] }
 {}
 
 /// 65,536 numbers are printed, and the next traps.
 fn most_prints()
-    ensures last { (printed nowhere (pos 1) (with_prints 65535)).answer ≡ Ok tt }
-    ensures further { end_of (printed nowhere (pos 1) (with_prints 65536)).answer ≡ traps_in_main Prints 0 0 }
+    ensures last { (print_number nowhere (pos 1) (with_prints 65535)).answer ≡ Ok tt }
+    ensures further { end_of (print_number nowhere (pos 1) (with_prints 65536)).answer ≡ traps_in_main Prints 0 0 }
 {}

@@ -1,4 +1,4 @@
-use Rattle.kernel_eval.proofs.Ending.{iteration_ends, iteration_fits}
+use Rattle.kernel_eval.proofs.TypedEvaluationLemmas.{iteration_ends, iteration_fits}
 use Rattle.kernel_eval.proofs.laws.typed_iterations_end.Goals as goal
 
 pub returns-clause-ends : goal.returns-clause-ends

@@ -1,4 +1,4 @@
-use Rattle.seq_meaning.proofs.Meant.{run_ends}
+use Rattle.seq_meaning.proofs.TypedRunLemmas.{run_ends}
 use Rattle.seq_meaning.proofs.laws.typed_programs_end.Goals as goal
 
 pub returns : goal.returns

@@ -1,0 +1,6 @@
+use Rattle.kernel_eval.proofs.PreservationLemmas.{keeps_body}
+use Rattle.kernel_eval.proofs.ActLemmas.{fields_made}
+use Rattle.kernel_eval.proofs.laws.acts_determine_fields.Goals as goal
+
+pub returns : goal.returns
+returns c mesh environment body = keeps_body fields_made mesh environment body (λ a t. tt {0})

@@ -1,0 +1,59 @@
+-- Expressions and assignments of the worked cases. This project's own.
+use Rattle.std.specs.Prelude.{◌^◌, ◌-◌, None, [], ℤ, pos, neg_ℤ, Result, Ok, Err}
+use Rattle.liszt_base.specs.declared.answers.Place.{Place}
+use Rattle.liszt_base.specs.declared.answers.TrapKind.{TrapKind}
+use Rattle.liszt_tree.specs.declared.tree.Level.TheVariants as level
+use Rattle.liszt_tree.specs.declared.tree.Rel.TheVariants.{Same as Equal}
+use Rattle.liszt_tree.specs.declared.tree.Sign.{Sign}
+use Rattle.liszt_tree.specs.declared.tree.Sign.TheVariants as sign
+use Rattle.liszt_tree.specs.Tree.{nowhere, Expression, Number, Neg, Chain, Compare, no_links, link}
+use Rattle.mesh_topology.specs.Meshes.{one_cell}
+use Rattle.kernel_eval.specs.Outcomes.{Stop, Trapped}
+use Rattle.kernel_eval.specs.States.{State, main_evaluation}
+use Rattle.kernel_eval.specs.Meaning.{Value, NumberValue, meaning}
+
+abbrev pub empty : State
+empty = record { fields = []; scalars = []; prints = []; turns = 0 }
+
+-- what an expression without names gives, or the trap
+abbrev pub value_of : Expression → Result Value Stop
+value_of e = (meaning one_cell [] e (main_evaluation empty)).answer
+
+abbrev pub number_result : ℤ → Result Value Stop
+number_result n = Ok (NumberValue n)
+
+abbrev pub trap_result : TrapKind → Place → Result Value Stop
+trap_result kind place = Err (Trapped (record { kind = kind; place = place; elem = None }))
+
+abbrev pub least_number : ℤ
+least_number = neg_ℤ (pos (2 ^ 63))
+
+abbrev pub greatest_number : ℤ
+greatest_number = pos (2 ^ 63 - 1)
+
+abbrev pub operator_place : Place
+operator_place = record { line = 3; col = 7 }
+
+-- two numbers by an operator that stands at that place
+abbrev pub binary : Sign → ℤ → ℤ → Expression
+binary s a b = Chain level.Product (Number nowhere a) (link s operator_place (Number nowhere b) no_links)
+
+abbrev pub negation_of : ℤ → Expression
+negation_of n = Neg operator_place (Number nowhere n)
+
+-- `1 / 0 == 0`, with `/` at that place, behind another operand
+abbrev pub divides_by_zero : Expression
+divides_by_zero = Compare nowhere Equal (binary sign.Over (pos 1) (pos 0)) (Number nowhere (pos 0))
+
+abbrev pub equality : ℤ → ℤ → Expression
+equality a b = Compare nowhere Equal (Number nowhere a) (Number nowhere b)
+
+abbrev pub both : Expression → Expression → Expression
+both a b = Chain level.And a (link sign.And nowhere b no_links)
+
+abbrev pub either : Expression → Expression → Expression
+either a b = Chain level.Or a (link sign.Or nowhere b no_links)
+
+-- three numbers by two operators, the second at that place
+abbrev pub chained : ℤ → Sign → ℤ → Sign → ℤ → Expression
+chained a s b t c = Chain level.Sum (Number nowhere a) (link s nowhere (Number nowhere b) (link t operator_place (Number nowhere c) no_links))
