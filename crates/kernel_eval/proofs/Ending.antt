@@ -26,19 +26,19 @@ use Rattle.liszt_tree.specs.declared.tree.Sign.{Sign}
 use Rattle.liszt_tree.specs.declared.tree.Sign.TheVariants.{Or, And, Plus, Minus, Times, Over, Rest}
 use Rattle.liszt_tree.specs.Tree.{Expression, Links, Statement, Body}
 use Rattle.mesh_topology.specs.Elements.{corner_lists, count}
-use Rattle.mesh_topology.proofs.Near.{vertex_count}
-use Rattle.topo_operators.specs.Operands.{IsElement, IsOf, CanVisit}
-use Rattle.topo_operators.specs.Operators.{head, tail, inside, outside, flip, valid, same, towards, members, unflipped, turned, points_to, tail_of, head_of, inside_of, outside_of}
-use Rattle.topo_operators.proofs.Results.{given, end_of, side_of, members_of}
-use Rattle.phase_types.specs.Names.{Names, Named, FieldName, ScalarName, LocalName, ElementName, named, is_built_in, Comprehension}
+use Rattle.mesh_topology.proofs.NearLemmas.{vertex_count}
+use Rattle.topo_operators.specs.Operands.{IsElement, IsNilOrElement, IsSetOperand}
+use Rattle.topo_operators.specs.Operators.{head, tail, inside, outside, flip, valid, same, towards, members, unflipped, reversed, points_to, tail_of, head_of, inside_of, outside_of}
+use Rattle.topo_operators.proofs.ResultLemmas.{nil_or_result, end_of, side_of, members_of}
+use Rattle.phase_types.specs.Environments.{Environment, Binding, FieldName, ScalarName, LocalName, ElementName, binding_of, is_built_in, Comprehension}
 use Rattle.phase_types.specs.Typed.{IsNew, StatementFits, FitsVar, FitsVal, FitsField, FitsScalar, FitsLocal, FitsIf, FitsWhile, FitsFor, BodyFits, FitsNothing, FitsThen, ComprehensionFits}
-use Rattle.phase_types.specs.Types.{ValueType, NumberType, TruthType, ElementType, call_type, operand_type, is_sameness, HasType, IsNumber, IsScalar, IsLocal, IsElement as IsElementName, IsField, IsCall, IsTowards, IsNeg, IsNot, IsChain, AreNumbers, AreElements, FollowsType, NoMore, OneMore}
+use Rattle.phase_types.specs.Types.{ValueType, NumberType, TruthType, ElementType, call_type, operand_type, is_sameness, HasType, IsNumber, IsScalar, IsLocal, IsElement as IsElementName, IsField, IsCall, IsTowards, IsNeg, IsNot, IsChain, AreNumbers, AreElements, FollowsType, NoLinks, OneLink}
 use Rattle.kernel_eval.specs.Fits.{IsBuiltIn, IsLive, EntryFits, StateFits}
 use Rattle.kernel_eval.specs.Iterations.{opening, iteration, end_of as run_end, iteration_end}
 use Rattle.kernel_eval.specs.Kept.{Keeps, field_values}
 use Rattle.kernel_eval.specs.Meaning.{Value, NumberValue, TruthValue, ElementValue, number_of, truth_of, element_of, fitting, divided, operated, is_decided, negated, denied, compared, holds, id_at, call_of, field_read, spot_of, held, is_in_range, meaning, meaning_behind, number_in, truth_in, element_in, assigned, field_assigned, name_assigned, in_block, moment_turns, each_member, statement_meaning, body_meaning, traps}
 use Rattle.kernel_eval.specs.Outcomes.{Stop, Trapped, NoMeaning, Outcome, Doing, gives, go_on, and_then, either, each, does_nothing, changes, taking_a_turn, loop_within, loop}
-use Rattle.kernel_eval.specs.States.{State, value_in, scalar_value, Moment, with_local, with_element, out_of_block, local_named, element_named}
+use Rattle.kernel_eval.specs.States.{State, value_in, scalar_value, Moment, with_local, with_element, after_block, local_named, element_named}
 use Rattle.kernel_eval.proofs.Doing.{keeps_then}
 use Rattle.kernel_eval.proofs.Keeping.{leads, element_keeps, keeps_body}
 use Rattle.kernel_eval.proofs.Shapes.{fits_again, same_locals, HasShape, like_itself, same_names, local_assigned, spot_set, reduced, with_turns, KeepsShape, out_again, shapes_kept}
@@ -79,19 +79,19 @@ ends_by_trap kind place = record { ends = λ m e. tt }
 data ValueFits (mesh : MeshLists) : ValueType → Value → Type 0 where
   NumberFits : (n : ℤ) → ValueFits mesh NumberType (NumberValue n)
   TruthFits : (b : Bool) → ValueFits mesh TruthType (TruthValue b)
-  ElementFits : {kind : Kind} (x : Option Elem) → IsOf mesh kind x → ValueFits mesh (ElementType kind) (ElementValue x)
+  ElementFits : {kind : Kind} (x : Option Elem) → IsNilOrElement mesh kind x → ValueFits mesh (ElementType kind) (ElementValue x)
 
 -- WHAT A NAME STANDS FOR in a moment, by what it stands for here and in the main program
-abbrev NameFits : MeshLists → Option Named → Bool → Option (Option Elem) → Option Named → Type 0
+abbrev NameFits : MeshLists → Option Binding → Bool → Option (Option Elem) → Option Binding → Type 0
 NameFits mesh global is_local element (Some LocalName) = is_local ≡ true
-NameFits mesh global is_local element (Some (ElementName kind)) = (is_local ≡ false) × (x : Option Elem) × (element ≡ Some x) × IsOf mesh kind x
+NameFits mesh global is_local element (Some (ElementName kind)) = (is_local ≡ false) × (x : Option Elem) × (element ≡ Some x) × IsNilOrElement mesh kind x
 NameFits mesh global is_local element (Some (ScalarName number)) = (is_local ≡ false) × (element ≡ None) × (global ≡ Some (ScalarName number))
 NameFits mesh global is_local element (Some (FieldName number kind)) = (is_local ≡ false) × (global ≡ Some (FieldName number kind))
 NameFits mesh global is_local element None = is_local ≡ false
 
-pub record MomentFits (mesh : MeshLists) (globals names : Names) (m : Moment) : Type 0 where
+pub record MomentFits (mesh : MeshLists) (globals environment : Environment) (m : Moment) : Type 0 where
   pub state_fits : StateFits mesh globals m.state
-  pub name_fits : (name : List ℕ) → NameFits mesh (named globals name) (is_some (local_named m name)) (element_named m name) (named names name)
+  pub name_fits : (name : List ℕ) → NameFits mesh (binding_of globals name) (is_some (local_named m name)) (element_named m name) (binding_of environment name)
 
 -- what is there
 some_is : {A : Type 0} (o : Option A) → is_some o ≡ true → (a : A) × (o ≡ Some a)
@@ -107,7 +107,7 @@ got [] i l = absurd (omega (arith, l))
 got (x ∷ xs) zero l = (x, refl)
 got (x ∷ xs) (suc i) l = got xs i (omega (arith, l))
 
-module _ (mesh : MeshLists) (globals : Names) where
+module _ (mesh : MeshLists) (globals : Environment) where
   -- fields
   below_six : (number : ℕ) (kind : Kind) → IsBuiltIn number kind → is_built_in number ≡ true
   below_six number kind (inl is) = lt-ltb number 6 (omega (arith, is.0))
@@ -138,13 +138,13 @@ module _ (mesh : MeshLists) (globals : Names) where
       let cell = got mesh.cells x.id (omega (arith, length-map mesh.cells (λ cell. cell.corners), l')) in
       rw (is.0, cell.1) (cell.0.region, refl)
 
-  module _ (names : Names) where
+  module _ (environment : Environment) where
     abbrev pub Fits : Moment → Type 0
-    Fits m = MomentFits mesh globals names m
+    Fits m = MomentFits mesh globals environment m
 
-    fits_at : {here : Option Named} {m : Moment} → Fits m → (name : List ℕ) → named names name ≡ here
-        → NameFits mesh (named globals name) (is_some (local_named m name)) (element_named m name) here
-    fits_at {m = m} f name is = subst (λ here. NameFits mesh (named globals name) (is_some (local_named m name)) (element_named m name) here) is (f.name_fits name)
+    fits_at : {here : Option Binding} {m : Moment} → Fits m → (name : List ℕ) → binding_of environment name ≡ here
+        → NameFits mesh (binding_of globals name) (is_some (local_named m name)) (element_named m name) here
+    fits_at {m = m} f name is = subst (λ here. NameFits mesh (binding_of globals name) (is_some (local_named m name)) (element_named m name) here) is (f.name_fits name)
 
     fits_like : (m after : Moment) → HasShape m after → Fits m → Fits after
     fits_like m after r f = record {
@@ -165,7 +165,7 @@ module _ (mesh : MeshLists) (globals : Names) where
     truth_fits : {v : Value} → ValueFits mesh TruthType v → Ends Fits (λ b. Unit {0}) Fits (truth_of v)
     truth_fits (TruthFits b) = record { ends = λ m f. (tt, f) }
 
-    element_fits : {kind : Kind} {v : Value} → ValueFits mesh (ElementType kind) v → Ends Fits (IsOf mesh kind) Fits (element_of v)
+    element_fits : {kind : Kind} {v : Value} → ValueFits mesh (ElementType kind) v → Ends Fits (IsNilOrElement mesh kind) Fits (element_of v)
     element_fits (ElementFits x of) = record { ends = λ m f. (of, f) }
 
     fitting_ends : (place : Place) (n : ℤ) → Gives NumberType (fitting place n)
@@ -205,7 +205,7 @@ module _ (mesh : MeshLists) (globals : Names) where
     elements_compared _ is a b = absurd cc
 
     -- calls
-    flipped : (kind : Kind) (x : Option Elem) → IsOf mesh kind x → IsOf mesh kind (flip x)
+    flipped : (kind : Kind) (x : Option Elem) → IsNilOrElement mesh kind x → IsNilOrElement mesh kind (flip x)
     flipped kind None of = of
     flipped kind (Some x) of = of
 
@@ -217,41 +217,41 @@ module _ (mesh : MeshLists) (globals : Names) where
     CallEnds place fun x (Some type) = Gives type (call_of mesh place fun x)
     CallEnds place fun x None = Unit {0}
 
-    call_ends : (place : Place) (fun : Fun) (kind : Kind) (x : Option Elem) → IsOf mesh kind x → CallEnds place fun x (call_type fun kind)
+    call_ends : (place : Place) (fun : Fun) (kind : Kind) (x : Option Elem) → IsNilOrElement mesh kind x → CallEnds place fun x (call_type fun kind)
     call_ends place Head Edge x of =
-        given_value (ElementFits (head mesh x) (given mesh Edge Vertex (head_of mesh) (λ x. end_of mesh x (cond x.flipped 0 1)) x of))
+        given_value (ElementFits (head mesh x) (nil_or_result mesh Edge Vertex (head_of mesh) (λ x. end_of mesh x (cond x.flipped 0 1)) x of))
     call_ends place Tail Edge x of =
-        given_value (ElementFits (tail mesh x) (given mesh Edge Vertex (tail_of mesh) (λ x. end_of mesh x (cond x.flipped 1 0)) x of))
+        given_value (ElementFits (tail mesh x) (nil_or_result mesh Edge Vertex (tail_of mesh) (λ x. end_of mesh x (cond x.flipped 1 0)) x of))
     call_ends place Inside Face x of =
-        given_value (ElementFits (inside mesh x) (given mesh Face Cell (inside_of mesh) (λ x is. side_of mesh x (cond x.flipped 1 0)) x of))
+        given_value (ElementFits (inside mesh x) (nil_or_result mesh Face Cell (inside_of mesh) (λ x is. side_of mesh x (cond x.flipped 1 0)) x of))
     call_ends place Outside Face x of =
-        given_value (ElementFits (outside mesh x) (given mesh Face Cell (outside_of mesh) (λ x is. side_of mesh x (cond x.flipped 0 1)) x of))
+        given_value (ElementFits (outside mesh x) (nil_or_result mesh Face Cell (outside_of mesh) (λ x is. side_of mesh x (cond x.flipped 0 1)) x of))
     call_ends place Flip Edge x of = given_value (ElementFits (flip x) (flipped Edge x of))
     call_ends place Flip Face x of = given_value (ElementFits (flip x) (flipped Face x of))
     call_ends place Valid kind x of = given_value (TruthFits (valid x))
     call_ends place Id kind x of = id_ends place x
     call_ends place _ _ x of = tt
 
-    pointed : (kind : Kind) (x to : Option Elem) → IsOf mesh kind x → IsOf mesh kind (towards mesh x to)
+    pointed : (kind : Kind) (x to : Option Elem) → IsNilOrElement mesh kind x → IsNilOrElement mesh kind (towards mesh x to)
     pointed kind None to of = tt
     pointed kind (Some x) None of = tt
     pointed kind (Some x) (Some to) of =
-        one (same (points_to mesh (unflipped x.kind x.id)) (Some to)) (same (points_to mesh (turned (unflipped x.kind x.id))) (Some to)) where
-          one : (b c : Bool) → IsOf mesh kind (cond b (Some (unflipped x.kind x.id)) (cond c (Some (turned (unflipped x.kind x.id))) None))
+        one (same (points_to mesh (unflipped x.kind x.id)) (Some to)) (same (points_to mesh (reversed (unflipped x.kind x.id))) (Some to)) where
+          one : (b c : Bool) → IsNilOrElement mesh kind (cond b (Some (unflipped x.kind x.id)) (cond c (Some (reversed (unflipped x.kind x.id))) None))
           one true c = of
           one false true = of
           one false false = tt
 
     -- fields
-    field_read_ends : (place : Place) (number : ℕ) (kind : Kind) (x : Option Elem) (m : Moment) → IsOf mesh kind x → Fits m
+    field_read_ends : (place : Place) (number : ℕ) (kind : Kind) (x : Option Elem) (m : Moment) → IsNilOrElement mesh kind x → Fits m
         → EntryFits mesh m.state (FieldName number kind) → Comes (ValueFits mesh NumberType) Fits (field_read mesh place (Some (FieldName number kind)) x m)
     field_read_ends place number kind None m of f is = tt
     field_read_ends place number kind (Some x) m of f is =
         let n = held_value m.state number kind x is of.1 in
         rw n.1 (NumberFits n.0, fits_like m _ (same_names m _ (like_itself m.state) refl refl) f)
 
-    field_ends : (place : Place) (name : List ℕ) (number : ℕ) (kind : Kind) (x : Option Elem) → named names name ≡ Some (FieldName number kind) → IsOf mesh kind x
-        → Gives NumberType (field_read mesh place (named globals name) x)
+    field_ends : (place : Place) (name : List ℕ) (number : ℕ) (kind : Kind) (x : Option Elem) → binding_of environment name ≡ Some (FieldName number kind) → IsNilOrElement mesh kind x
+        → Gives NumberType (field_read mesh place (binding_of globals name) x)
     field_ends place name number kind x is of = record {
       ends = λ m f.
           let global = (fits_at f name is).1 in
@@ -259,7 +259,7 @@ module _ (mesh : MeshLists) (globals : Names) where
     }
 
     mutual
-      means : {e : Expression} {type : ValueType} → HasType names e type → Gives type (meaning mesh globals e)
+      means : {e : Expression} {type : ValueType} → HasType environment e type → Gives type (meaning mesh globals e)
       means (IsNumber place n) = given_value (NumberFits n)
       means (IsScalar {number = number} place name is) = record {
         ends = λ m f.
@@ -282,31 +282,31 @@ module _ (mesh : MeshLists) (globals : Names) where
           ends_then (element_fits fits') (λ y of'. given_value (ElementFits (towards mesh x y) (pointed kind x y of))))))
       means (IsNeg place h) = ends_then (means h) (λ v fits. negated_ends place fits)
       means (IsNot place h) = ends_then (means h) (λ v fits. denied_ends fits)
-      means (IsChain level h more) = ends_then (means h) (λ v fits. means_behind fits more)
+      means (IsChain level h rest) = ends_then (means h) (λ v fits. means_behind fits rest)
       means (AreNumbers place rel h to) = ends_then (means h) (λ v fits. ends_then (means to) (λ w fits'. numbers_compared rel fits fits'))
       means (AreElements place rel h to same) = ends_then (means h) (λ v fits. ends_then (means to) (λ w fits'. elements_compared rel same fits fits'))
 
-      means_behind : {v : Value} {type : ValueType} {links : Links} → ValueFits mesh type v → FollowsType names type links
+      means_behind : {v : Value} {type : ValueType} {links : Links} → ValueFits mesh type v → FollowsType environment type links
           → Gives type (meaning_behind mesh globals v links)
-      means_behind fits (NoMore type) = given_value fits
-      means_behind {v = v} fits (OneMore sign place is h more) =
+      means_behind fits (NoLinks type) = given_value fits
+      means_behind {v = v} fits (OneLink sign place is h rest) =
           ends_then (ends_either (is_decided sign v) (given_value fits) (ends_then (means h) (λ w fits'. operated_fits sign place is fits fits')))
-          (λ u fits'. means_behind fits' more)
+          (λ u fits'. means_behind fits' rest)
 
-    pub number_ends : {e : Expression} → HasType names e NumberType → Ends Fits (λ n. Unit {0}) Fits (number_in mesh globals e)
+    pub number_ends : {e : Expression} → HasType environment e NumberType → Ends Fits (λ n. Unit {0}) Fits (number_in mesh globals e)
     number_ends h = ends_then (means h) (λ v fits. number_fits fits)
 
-    pub truth_ends : {e : Expression} → HasType names e TruthType → Ends Fits (λ b. Unit {0}) Fits (truth_in mesh globals e)
+    pub truth_ends : {e : Expression} → HasType environment e TruthType → Ends Fits (λ b. Unit {0}) Fits (truth_in mesh globals e)
     truth_ends h = ends_then (means h) (λ v fits. truth_fits fits)
 
-    element_ends : (kind : Kind) {e : Expression} → HasType names e (ElementType kind) → Ends Fits (IsOf mesh kind) Fits (element_in mesh globals e)
+    element_ends : (kind : Kind) {e : Expression} → HasType environment e (ElementType kind) → Ends Fits (IsNilOrElement mesh kind) Fits (element_in mesh globals e)
     element_ends kind h = ends_then (means h) (λ v fits. element_fits fits)
 
     -- STATEMENTS
-    abbrev Does : Names → Doing Moment (Unit {0}) → Type 0
+    abbrev Does : Environment → Doing Moment (Unit {0}) → Type 0
     Does behind doing = Ends Fits (λ done. Unit {0}) (MomentFits mesh globals behind) doing
 
-    local_ends : (name : List ℕ) (n : ℤ) → Does ((name, LocalName) ∷ names) (changes (with_local name n))
+    local_ends : (name : List ℕ) (n : ℤ) → Does ((name, LocalName) ∷ environment) (changes (with_local name n))
     local_ends name n = record {
       ends = λ m f. (
         tt,
@@ -320,8 +320,8 @@ module _ (mesh : MeshLists) (globals : Names) where
       );
     }
 
-    named_ends : (name : List ℕ) (kind : Kind) (x : Option Elem) → IsNew names name → IsOf mesh kind x
-        → Does ((name, ElementName kind) ∷ names) (changes (with_element name x))
+    named_ends : (name : List ℕ) (kind : Kind) (x : Option Elem) → IsNew environment name → IsNilOrElement mesh kind x
+        → Does ((name, ElementName kind) ∷ environment) (changes (with_element name x))
     named_ends name kind x new of = record {
       ends = λ m f. (
         tt,
@@ -336,23 +336,23 @@ module _ (mesh : MeshLists) (globals : Names) where
     }
 
     -- assignments
-    spot_set_ends : (place : Place) (how : How) (number : ℕ) (kind : Kind) (n : ℤ) (x : Option Elem) (m : Moment) → IsOf mesh kind x → Fits m
+    spot_set_ends : (place : Place) (how : How) (number : ℕ) (kind : Kind) (n : ℤ) (x : Option Elem) (m : Moment) → IsNilOrElement mesh kind x → Fits m
         → IsLive mesh m.state number kind → Comes (λ done. Unit {0}) Fits (field_assigned place how (Some (FieldName number kind)) n x m)
     spot_set_ends place how number kind n None m of f live = tt
     spot_set_ends place how number kind n (Some x) m of f live =
         let old = live_value m.state number kind x live of.1 in rw old.1 (tt, fits_like m _ (spot_set (spot_of number x) how n old.0 m) f)
 
     field_set_ends : (place : Place) (name : List ℕ) (how : How) (number : ℕ) (kind : Kind) (n : ℤ) (x : Option Elem)
-        → named names name ≡ Some (FieldName number kind) → is_built_in number ≡ false → IsOf mesh kind x
-        → Does names (field_assigned place how (named globals name) n x)
+        → binding_of environment name ≡ Some (FieldName number kind) → is_built_in number ≡ false → IsNilOrElement mesh kind x
+        → Does environment (field_assigned place how (binding_of globals name) n x)
     field_set_ends place name how number kind n x is own of = record {
       ends = λ m f.
           let global = (fits_at f name is).1 in
           rw global (spot_set_ends place how number kind n x m of f (live_if_own m.state number kind (f.state_fits.entry_fits name _ global) own));
     }
 
-    scalar_set_ends : (name : List ℕ) (how : How) (n : ℤ) (number : ℕ) → named names name ≡ Some (ScalarName number)
-        → Does names (λ m. name_assigned name how n (local_named m name) (named globals name) m)
+    scalar_set_ends : (name : List ℕ) (how : How) (n : ℤ) (number : ℕ) → binding_of environment name ≡ Some (ScalarName number)
+        → Does environment (λ m. name_assigned name how n (local_named m name) (binding_of globals name) m)
     scalar_set_ends name how n number is = record {
       ends = λ m f.
           let h = fits_at f name is in
@@ -360,8 +360,8 @@ module _ (mesh : MeshLists) (globals : Names) where
           rw (none_is _ h.0, h.2, old.1) (tt, fits_like m _ (reduced how n number old.0 m) f);
     }
 
-    local_set_ends : (name : List ℕ) (how : How) (n : ℤ) → named names name ≡ Some LocalName
-        → Does names (λ m. name_assigned name how n (local_named m name) (named globals name) m)
+    local_set_ends : (name : List ℕ) (how : How) (n : ℤ) → binding_of environment name ≡ Some LocalName
+        → Does environment (λ m. name_assigned name how n (local_named m name) (binding_of globals name) m)
     local_set_ends name how n is = record {
       ends = λ m f.
           let old = some_is (local_named m name) (fits_at f name is) in
@@ -370,52 +370,52 @@ module _ (mesh : MeshLists) (globals : Names) where
 
     -- blocks and loops
     behind_block : (before s : Moment) → Fits before → KeepsShape before s → (answer : Result (Unit {0}) Stop)
-        → EndsIn (λ done. Unit {0}) (λ m. Unit {0}) s answer → Comes (λ done. Unit {0}) Fits (go_on (λ done. changes (out_of_block before)) s answer)
+        → EndsIn (λ done. Unit {0}) (λ m. Unit {0}) s answer → Comes (λ done. Unit {0}) Fits (go_on (λ done. changes (after_block before)) s answer)
     behind_block before s f r (Ok done) e = (tt, fits_like before _ (out_again before s r) f)
     behind_block before s f r (Err (Trapped trap)) e = tt
     behind_block before s f r (Err NoMeaning) e = e
 
     block_ends : {body : Doing Moment (Unit {0})} → Keeps KeepsShape body → Ends Fits (λ done. Unit {0}) (λ m. Unit {0}) body
-        → Does names (in_block body)
+        → Does environment (in_block body)
     block_ends {body = body} k h = record { ends = λ m f. behind_block m (body m).after f (k.kept m) (body m).answer (h.ends m f) }
 
-    nothing_ends : Does names does_nothing
+    nothing_ends : Does environment does_nothing
     nothing_ends = record { ends = λ m f. (tt, f) }
 
-    turn_taken : (place : Place) {body : Doing Moment (Unit {0})} → Does names body → (left : ℕ) (m : Moment) → Fits m
+    turn_taken : (place : Place) {body : Doing Moment (Unit {0})} → Does environment body → (left : ℕ) (m : Moment) → Fits m
         → Comes (λ done. Unit {0}) Fits (taking_a_turn moment_turns (traps Spent place) body left m)
     turn_taken place h zero m f = tt
     turn_taken place h (suc n) m f = h.ends _ (fits_like m _ (with_turns n m) f)
 
-    turn_ends : (place : Place) {body : Doing Moment (Unit {0})} → Does names body
-        → Does names (λ m. taking_a_turn moment_turns (traps Spent place) body (moment_turns.left m) m)
+    turn_ends : (place : Place) {body : Doing Moment (Unit {0})} → Does environment body
+        → Does environment (λ m. taking_a_turn moment_turns (traps Spent place) body (moment_turns.left m) m)
     turn_ends place h = record { ends = λ m f. turn_taken place h m.state.turns m f }
 
     within_ends : (place : Place) {test : Doing Moment Bool} {body : Doing Moment (Unit {0})} → Ends Fits (λ b. Unit {0}) Fits test
-        → Does names body → (bound : ℕ) → Does names (loop_within moment_turns (traps Spent place) test body bound)
+        → Does environment body → (bound : ℕ) → Does environment (loop_within moment_turns (traps Spent place) test body bound)
     within_ends place t h zero = ends_then t (λ b any. ends_either b (ends_by_trap Spent place) nothing_ends)
     within_ends place t h (suc n) =
         ends_then t (λ b any. ends_either b (ends_then (turn_ends place h) (λ done any. within_ends place t h n)) nothing_ends)
 
     loop_ends : (place : Place) {test : Doing Moment Bool} {body : Doing Moment (Unit {0})} → Ends Fits (λ b. Unit {0}) Fits test
-        → Does names body → Does names (loop moment_turns (traps Spent place) test body)
+        → Does environment body → Does environment (loop moment_turns (traps Spent place) test body)
     loop_ends place t h = record { ends = λ m f. (within_ends place t h m.state.turns).ends m f }
 
-    each_ends : (kind : Kind) {doing : Elem → Doing Moment (Unit {0})} → ((x : Elem) → IsElement mesh kind x → Does names (doing x))
-        → (xs : List Elem) → AllByRecursion (IsElement mesh kind) xs → Does names (each doing xs)
+    each_ends : (kind : Kind) {doing : Elem → Doing Moment (Unit {0})} → ((x : Elem) → IsElement mesh kind x → Does environment (doing x))
+        → (xs : List Elem) → AllByRecursion (IsElement mesh kind) xs → Does environment (each doing xs)
     each_ends kind h [] all = nothing_ends
     each_ends kind h (x ∷ xs) all = ends_then (h x all.0) (λ done any. each_ends kind h xs all.1)
 
   module _ (is_mesh : IsMesh (length mesh.points) (corner_lists mesh)) where
-    can_visit : (kind : Kind) (set : SetName) (x : Elem) → IsElement mesh kind x → has_set kind set ≡ true → CanVisit mesh set x
-    can_visit kind set x is has = record { in_range = rw is.0 is.1; has = rw is.0 has }
+    can_visit : (kind : Kind) (set : SetName) (x : Elem) → IsElement mesh kind x → has_set kind set ≡ true → IsSetOperand mesh set x
+    can_visit kind set x is has = record { in_range = rw is.0 is.1; kind_has_set = rw is.0 has }
 
-    members_end : (names : Names) (place : Place) (kind : Kind) (set : SetName) (body : Option Elem → Doing Moment (Unit {0})) (x : Option Elem) → IsOf mesh kind x
-        → has_set kind set ≡ true → ((member : Elem) → IsElement mesh (kind_of set) member → Does names names (in_block (body (Some member))))
-        → Does names names (each_member mesh place body (members mesh set) x)
-    members_end names place kind set body None of has h = ends_by_trap NilElement place
-    members_end names place kind set body (Some x) of has h =
-        each_ends names (kind_of set) h (members mesh set x) (members_of mesh set x is_mesh (can_visit kind set x of has))
+    members_end : (environment : Environment) (place : Place) (kind : Kind) (set : SetName) (body : Option Elem → Doing Moment (Unit {0})) (x : Option Elem) → IsNilOrElement mesh kind x
+        → has_set kind set ≡ true → ((member : Elem) → IsElement mesh (kind_of set) member → Does environment environment (in_block (body (Some member))))
+        → Does environment environment (each_member mesh place body (members mesh set) x)
+    members_end environment place kind set body None of has h = ends_by_trap NilElement place
+    members_end environment place kind set body (Some x) of has h =
+        each_ends environment (kind_of set) h (members mesh set x) (members_of mesh set x is_mesh (can_visit kind set x of has))
 
     body_keeps : (body : Body) → Keeps KeepsShape (body_meaning mesh globals body)
     body_keeps body = keeps_body shapes_kept mesh globals body (λ a t. tt)
@@ -427,26 +427,26 @@ module _ (mesh : MeshLists) (globals : Names) where
     member_keeps name body member = keeps_then (leads shapes_kept) (element_keeps shapes_kept name member) (λ done. body_keeps body)
 
     mutual
-      statement_ends : {names behind : Names} {s : Statement} → StatementFits names s behind → Does names behind (statement_meaning mesh globals s)
-      statement_ends {names = names} (FitsVar place name at h new) = ends_then (number_ends names h) (λ n any. local_ends names name n)
-      statement_ends {names = names} (FitsVal {kind = kind} place name at h new) = ends_then (element_ends names kind h) (λ x of. named_ends names name kind x new of)
-      statement_ends {names = names} (FitsField {number = number} {kind = kind} place name how is own h value) =
-          ends_then (number_ends names value) (λ n any. ends_then (element_ends names kind h) (λ x of. field_set_ends names place name how number kind n x is own of))
-      statement_ends {names = names} (FitsScalar {number = number} place name how is reduces value) =
-          ends_then (number_ends names value) (λ n any. scalar_set_ends names name how n number is)
-      statement_ends {names = names} (FitsLocal place name how is value) = ends_then (number_ends names value) (λ n any. local_set_ends names name how n is)
-      statement_ends {names = names} (FitsIf {first = first} {second = second} place has_else h this other) =
-          ends_then (truth_ends names h) (λ b any. ends_either b (block_ends names (body_keeps first) (body_ends this)) (block_ends names (body_keeps second) (body_ends other)))
-      statement_ends {names = names} (FitsWhile {body = body} place h fits) =
-          loop_ends names place (truth_ends names h) (block_ends names (body_keeps body) (body_ends fits))
-      statement_ends {names = names} (FitsFor {kind = kind} {body = body} place name at set set_at h has new fits) =
-          ends_then (element_ends names kind h) (λ x of. members_end names set_at kind set (on_member name body) x of has
-          (λ member is. block_ends names (member_keeps name body (Some member))
-          (ends_then (named_ends names name (kind_of set) (Some member) new is) (λ done any. body_ends fits))))
+      statement_ends : {environment behind : Environment} {s : Statement} → StatementFits environment s behind → Does environment behind (statement_meaning mesh globals s)
+      statement_ends {environment = environment} (FitsVar place name at h new) = ends_then (number_ends environment h) (λ n any. local_ends environment name n)
+      statement_ends {environment = environment} (FitsVal {kind = kind} place name at h new) = ends_then (element_ends environment kind h) (λ x of. named_ends environment name kind x new of)
+      statement_ends {environment = environment} (FitsField {number = number} {kind = kind} place name how is own h value) =
+          ends_then (number_ends environment value) (λ n any. ends_then (element_ends environment kind h) (λ x of. field_set_ends environment place name how number kind n x is own of))
+      statement_ends {environment = environment} (FitsScalar {number = number} place name how is reduces value) =
+          ends_then (number_ends environment value) (λ n any. scalar_set_ends environment name how n number is)
+      statement_ends {environment = environment} (FitsLocal place name how is value) = ends_then (number_ends environment value) (λ n any. local_set_ends environment name how n is)
+      statement_ends {environment = environment} (FitsIf {first = first} {second = second} place has_else h this other) =
+          ends_then (truth_ends environment h) (λ b any. ends_either b (block_ends environment (body_keeps first) (body_ends this)) (block_ends environment (body_keeps second) (body_ends other)))
+      statement_ends {environment = environment} (FitsWhile {body = body} place h fits) =
+          loop_ends environment place (truth_ends environment h) (block_ends environment (body_keeps body) (body_ends fits))
+      statement_ends {environment = environment} (FitsFor {kind = kind} {body = body} place name at set set_at h has new fits) =
+          ends_then (element_ends environment kind h) (λ x of. members_end environment set_at kind set (on_member name body) x of has
+          (λ member is. block_ends environment (member_keeps name body (Some member))
+          (ends_then (named_ends environment name (kind_of set) (Some member) new is) (λ done any. body_ends fits))))
 
-      body_ends : {names : Names} {body : Body} → BodyFits names body → Ends (Fits names) (λ done. Unit {0}) (λ m. Unit {0}) (body_meaning mesh globals body)
-      body_ends (FitsNothing names) = record { ends = λ m f. (tt, tt) }
-      body_ends (FitsThen s more) = ends_then (statement_ends s) (λ done any. body_ends more)
+      body_ends : {environment : Environment} {body : Body} → BodyFits environment body → Ends (Fits environment) (λ done. Unit {0}) (λ m. Unit {0}) (body_meaning mesh globals body)
+      body_ends (FitsNothing environment) = record { ends = λ m f. (tt, tt) }
+      body_ends (FitsThen s rest) = ends_then (statement_ends s) (λ done any. body_ends rest)
 
 -- AN ITERATION
 pub is_an_end : {S A : Type 0} (G : S → Type 0) (after : S) (answer : Result A Stop) → EndsIn {A = A} (λ a. Unit {0}) G after answer → is_some (run_end answer) ≡ true
@@ -454,7 +454,7 @@ is_an_end G after (Ok a) e = refl
 is_an_end G after (Err (Trapped trap)) e = refl
 is_an_end G after (Err NoMeaning) e = absurd e
 
-pub at_first : (mesh : MeshLists) (s : State) (global : Option Named) → ((entry : Named) → global ≡ Some entry → EntryFits mesh s entry)
+pub at_first : (mesh : MeshLists) (s : State) (global : Option Binding) → ((entry : Binding) → global ≡ Some entry → EntryFits mesh s entry)
     → NameFits mesh global false None global
 at_first mesh s None h = refl
 at_first mesh s (Some (FieldName number kind)) h = (refl, refl)
@@ -462,24 +462,24 @@ at_first mesh s (Some (ScalarName number)) h = (refl, refl, refl)
 at_first mesh s (Some LocalName) h = absurd (h LocalName refl)
 at_first mesh s (Some (ElementName kind)) h = absurd (h (ElementName kind) refl)
 
-opening_fits : (mesh : MeshLists) (c : Comprehension) (turns : ℕ) (s : State) (id : ℕ) → StateFits mesh c.names s → id < count mesh c.over
-    → MomentFits mesh c.names ((c.name, ElementName c.over) ∷ c.names) (opening c turns s id)
+opening_fits : (mesh : MeshLists) (c : Comprehension) (turns : ℕ) (s : State) (id : ℕ) → StateFits mesh c.environment s → id < count mesh c.over
+    → MomentFits mesh c.environment ((c.name, ElementName c.over) ∷ c.environment) (opening c turns s id)
 opening_fits mesh c turns s id h l = record {
   state_fits = fits_again (record { fields = refl; scalars = refl }) h;
   name_fits = λ name. elim (cases_Bool (bytes_eq name c.name)) [
     | inl is ↦ rw is (refl, Some (unflipped c.over id), refl, (refl, l))
-    | inr is ↦ rw is (at_first mesh s (named c.names name) (h.entry_fits name))
+    | inr is ↦ rw is (at_first mesh s (binding_of c.environment name) (h.entry_fits name))
   ];
 }
 
 pub iteration_ends : (mesh : MeshLists) (c : Comprehension) (turns : ℕ) (s : State) (id : ℕ) → IsMesh (length mesh.points) (corner_lists mesh)
-    → ComprehensionFits c → StateFits mesh c.names s → id < count mesh c.over → is_some (iteration_end mesh c turns s id) ≡ true
+    → ComprehensionFits c → StateFits mesh c.environment s → id < count mesh c.over → is_some (iteration_end mesh c turns s id) ≡ true
 iteration_ends mesh c turns s id is_mesh fits h l =
     is_an_end (λ m. Unit {0}) (iteration mesh c turns s id).after (iteration mesh c turns s id).answer
-    ((body_ends mesh c.names is_mesh fits.body_fits).ends (opening c turns s id) (opening_fits mesh c turns s id h l))
+    ((body_ends mesh c.environment is_mesh fits.body_fits).ends (opening c turns s id) (opening_fits mesh c turns s id h l))
 
-pub iteration_fits : (mesh : MeshLists) (c : Comprehension) (turns : ℕ) (s : State) (id : ℕ) → StateFits mesh c.names s
-    → StateFits mesh c.names (iteration mesh c turns s id).after.state
+pub iteration_fits : (mesh : MeshLists) (c : Comprehension) (turns : ℕ) (s : State) (id : ℕ) → StateFits mesh c.environment s
+    → StateFits mesh c.environment (iteration mesh c turns s id).after.state
 iteration_fits mesh c turns s id h =
-    let kept = (keeps_body shapes_kept mesh c.names c.body (λ a t. tt)).kept (opening c turns s id) in
+    let kept = (keeps_body shapes_kept mesh c.environment c.body (λ a t. tt)).kept (opening c turns s id) in
     fits_again (record { fields = kept.like.fields; scalars = kept.like.scalars }) h

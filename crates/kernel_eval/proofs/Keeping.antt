@@ -19,55 +19,55 @@ use Rattle.liszt_tree.specs.declared.tree.Sign.TheVariants.{Or, And, Plus, Minus
 use Rattle.liszt_tree.specs.Tree.{Expression, Number, Name, Field, Call, Towards, Neg, Not, Chain, Compare, Links, no_links, link}
 use Rattle.liszt_tree.specs.Tree.{Statement, Var, Val, Assign, If, While, For, Body, no_statement, statement}
 use Rattle.topo_operators.specs.Operators.{towards, members}
-use Rattle.phase_types.specs.Names.{Names, Named, FieldName, ScalarName, named}
+use Rattle.phase_types.specs.Environments.{Environment, Binding, FieldName, ScalarName, binding_of}
 use Rattle.phase_types.specs.Walk.{Subject, OfField, OfScalar, mode_by}
 use Rattle.kernel_eval.specs.Kept.{Keeps}
 use Rattle.kernel_eval.proofs.Doing.{LeadsOn, keeps_then, keeps_either, keeps_each, keeps_loop}
 use Rattle.kernel_eval.specs.Outcomes.{Stop, Outcome, gives, go_on, changes}
-use Rattle.kernel_eval.specs.States.{Moment, value_in, with_value, with_fields, with_scalar_value, scalar_value, with_local, with_local_value, with_element, with_act, with_state, out_of_block, local_named, element_named}
+use Rattle.kernel_eval.specs.States.{Moment, value_in, with_value, with_fields, with_scalar_value, scalar_value, with_local, with_local_value, with_element, with_act, with_state, after_block, local_named, element_named}
 use Rattle.kernel_eval.specs.Meaning.{Value, NumberValue, TruthValue, ElementValue, number_of, truth_of, element_of, fitting, divided, operated, is_decided, negated, denied, compared, id_at, call_of, scalar_read, global_read, name_read, read_spot, field_read, spot_of, held, is_in_range, meaning, meaning_behind, number_in, truth_in, element_in, operand, assigned, spot_assigned, field_assigned, folds_of, scalar_assigned, global_assigned, name_assigned, in_block, moment_turns, each_member, statement_meaning, body_meaning, traps}
 
 -- WHAT A BODY ACCESSES by the names that are global: the fields that it reads or assigns, and the scalars that it assigns
 abbrev pub Access : Type 0
 Access = Subject × Mode
 
-abbrev pub TouchesField : Option Named → Mode → Access → Type 0
+abbrev pub TouchesField : Option Binding → Mode → Access → Type 0
 TouchesField (Some (FieldName number kind)) mode a = (OfField number, mode) ≡ a
 TouchesField _ mode a = ⊥
 
-abbrev pub TouchesScalar : Option Named → Mode → Access → Type 0
+abbrev pub TouchesScalar : Option Binding → Mode → Access → Type 0
 TouchesScalar (Some (ScalarName number)) mode a = (OfScalar number, mode) ≡ a
 TouchesScalar _ mode a = ⊥
 
 abbrev mutual
-  pub Touches : Names → Access → Expression → Type 0
-  Touches names a (Field place name arg) = Touches names a arg ⊎ TouchesField (named names name) Read a
-  Touches names a (Call place fun arg) = Touches names a arg
-  Touches names a (Towards place arg to) = Touches names a arg ⊎ Touches names a to
-  Touches names a (Neg place arg) = Touches names a arg
-  Touches names a (Not place arg) = Touches names a arg
-  Touches names a (Chain level first links) = Touches names a first ⊎ TouchesBehind names a links
-  Touches names a (Compare place rel left right) = Touches names a left ⊎ Touches names a right
-  Touches names a _ = ⊥
+  pub Touches : Environment → Access → Expression → Type 0
+  Touches environment a (Field place name arg) = Touches environment a arg ⊎ TouchesField (binding_of environment name) Read a
+  Touches environment a (Call place fun arg) = Touches environment a arg
+  Touches environment a (Towards place arg to) = Touches environment a arg ⊎ Touches environment a to
+  Touches environment a (Neg place arg) = Touches environment a arg
+  Touches environment a (Not place arg) = Touches environment a arg
+  Touches environment a (Chain level first links) = Touches environment a first ⊎ TouchesBehind environment a links
+  Touches environment a (Compare place rel left right) = Touches environment a left ⊎ Touches environment a right
+  Touches environment a _ = ⊥
 
-  pub TouchesBehind : Names → Access → Links → Type 0
-  TouchesBehind names a no_links = ⊥
-  TouchesBehind names a (link sign place arg more) = Touches names a arg ⊎ TouchesBehind names a more
+  pub TouchesBehind : Environment → Access → Links → Type 0
+  TouchesBehind environment a no_links = ⊥
+  TouchesBehind environment a (link sign place arg rest) = Touches environment a arg ⊎ TouchesBehind environment a rest
 
 abbrev mutual
-  pub StatementTouches : Names → Access → Statement → Type 0
-  StatementTouches names a (Var place name at init) = Touches names a init
-  StatementTouches names a (Val place name at init) = Touches names a init
-  StatementTouches names a (Assign place name (Some target) how set_to) =
-      (Touches names a target ⊎ TouchesField (named names name) (mode_by how) a) ⊎ Touches names a set_to
-  StatementTouches names a (Assign place name None how set_to) = TouchesScalar (named names name) (mode_by how) a ⊎ Touches names a set_to
-  StatementTouches names a (If place test first second has_else) = (Touches names a test ⊎ BodyTouches names a first) ⊎ BodyTouches names a second
-  StatementTouches names a (While place test body) = Touches names a test ⊎ BodyTouches names a body
-  StatementTouches names a (For place name at set set_at arg body) = Touches names a arg ⊎ BodyTouches names a body
+  pub StatementTouches : Environment → Access → Statement → Type 0
+  StatementTouches environment a (Var place name at init) = Touches environment a init
+  StatementTouches environment a (Val place name at init) = Touches environment a init
+  StatementTouches environment a (Assign place name (Some target) how set_to) =
+      (Touches environment a target ⊎ TouchesField (binding_of environment name) (mode_by how) a) ⊎ Touches environment a set_to
+  StatementTouches environment a (Assign place name None how set_to) = TouchesScalar (binding_of environment name) (mode_by how) a ⊎ Touches environment a set_to
+  StatementTouches environment a (If place test first second has_else) = (Touches environment a test ⊎ BodyTouches environment a first) ⊎ BodyTouches environment a second
+  StatementTouches environment a (While place test body) = Touches environment a test ⊎ BodyTouches environment a body
+  StatementTouches environment a (For place name at set set_at arg body) = Touches environment a arg ⊎ BodyTouches environment a body
 
-  pub BodyTouches : Names → Access → Body → Type 0
-  BodyTouches names a no_statement = ⊥
-  BodyTouches names a (statement s more) = StatementTouches names a s ⊎ BodyTouches names a more
+  pub BodyTouches : Environment → Access → Body → Type 0
+  BodyTouches environment a no_statement = ⊥
+  BodyTouches environment a (statement s rest) = StatementTouches environment a s ⊎ BodyTouches environment a rest
 
 -- WHAT SINGLE CHANGES KEEP, those of fields and scalars where P admits the access
 pub record IsKept (P : Access → Type 0) (R : Moment → Moment → Type 0) : Type 0 where
@@ -81,7 +81,7 @@ pub record IsKept (P : Access → Type 0) (R : Moment → Moment → Type 0) : T
       → R m (with_act (record { spot = spot; mode = mode_by how; value = operand how n }) (with_state (with_fields (with_value spot (assigned how old n) m.state.fields) m.state) m))
   pub scalar_set : (how : How) (n : ℤ) (scalar : ℕ) (old : ℤ) (m : Moment) → P (OfScalar scalar, mode_by how)
       → R m (folds_of how scalar n (with_state (with_scalar_value scalar (assigned how old n) m.state) m))
-  pub block : (before m : Moment) → R before m → R before (out_of_block before m)
+  pub block : (before m : Moment) → R before m → R before (after_block before m)
   pub turn : (n : ℕ) (m : Moment) → m.state.turns ≡ suc n → R m (with_state (record m.state { turns = n }) m)
 
 module _ {P : Access → Type 0} {R : Moment → Moment → Type 0} (k : IsKept P R) where
@@ -154,11 +154,11 @@ module _ {P : Access → Type 0} {R : Moment → Moment → Type 0} (k : IsKept 
   keeps_scalar_read (Some n) = record { kept = k.same }
   keeps_scalar_read None = record { kept = k.same }
 
-  keeps_global_read : (global : Option Named) → Keeps R (global_read global)
+  keeps_global_read : (global : Option Binding) → Keeps R (global_read global)
   keeps_global_read (Some (ScalarName number)) = record { kept = λ m. (keeps_scalar_read (scalar_value m.state number)).kept m }
   keeps_global_read _ = record { kept = k.same }
 
-  keeps_name_read : (value : Option ℤ) (x : Option (Option Elem)) (global : Option Named) → Keeps R (name_read value x global)
+  keeps_name_read : (value : Option ℤ) (x : Option (Option Elem)) (global : Option Binding) → Keeps R (name_read value x global)
   keeps_name_read (Some n) x global = record { kept = k.same }
   keeps_name_read None (Some x) global = record { kept = k.same }
   keeps_name_read None None global = keeps_global_read global
@@ -167,7 +167,7 @@ module _ {P : Access → Type 0} {R : Moment → Moment → Type 0} (k : IsKept 
   keeps_read_spot spot (Some n) h = record { kept = λ m. k.read spot n m h }
   keeps_read_spot spot None h = record { kept = k.same }
 
-  keeps_field_read : (mesh : MeshLists) (place : Place) (global : Option Named) (x : Option Elem) → Only (TouchesField global Read) → Keeps R (field_read mesh place global x)
+  keeps_field_read : (mesh : MeshLists) (place : Place) (global : Option Binding) (x : Option Elem) → Only (TouchesField global Read) → Keeps R (field_read mesh place global x)
   keeps_field_read mesh place (Some (FieldName number kind)) (Some x) h =
       record { kept = λ m. (keeps_read_spot (spot_of number x) (held mesh m.state (spot_of number x)) (h _ refl)).kept m }
   keeps_field_read mesh place (Some (FieldName number kind)) None h = record { kept = k.same }
@@ -178,43 +178,43 @@ module _ {P : Access → Type 0} {R : Moment → Moment → Type 0} (k : IsKept 
 
   -- expressions
   mutual
-    pub keeps_meaning : (mesh : MeshLists) (names : Names) (e : Expression) → Only (λ a. Touches names a e) → Keeps R (meaning mesh names e)
-    keeps_meaning mesh names (Number place n) h = record { kept = k.same }
-    keeps_meaning mesh names (Name place name) h =
-        record { kept = λ m. (keeps_name_read (local_named m name) (element_named m name) (named names name)).kept m }
-    keeps_meaning mesh names (Field place name arg) h =
-        keeps_then leads (keeps_meaning mesh names arg (λ a t. h a (inl t)))
-        (λ v. keeps_then leads (keeps_element_of v) (λ x. keeps_field_read mesh place (named names name) x (λ a t. h a (inr t))))
-    keeps_meaning mesh names (Call place fun arg) h =
-        keeps_then leads (keeps_meaning mesh names arg h) (λ v. keeps_then leads (keeps_element_of v) (λ x. keeps_call mesh place fun x))
-    keeps_meaning mesh names (Towards place arg to) h =
-        keeps_then leads (keeps_meaning mesh names arg (λ a t. h a (inl t))) (λ v. keeps_then leads (keeps_element_of v)
-        (λ x. keeps_then leads (keeps_meaning mesh names to (λ a t. h a (inr t)))
+    pub keeps_meaning : (mesh : MeshLists) (environment : Environment) (e : Expression) → Only (λ a. Touches environment a e) → Keeps R (meaning mesh environment e)
+    keeps_meaning mesh environment (Number place n) h = record { kept = k.same }
+    keeps_meaning mesh environment (Name place name) h =
+        record { kept = λ m. (keeps_name_read (local_named m name) (element_named m name) (binding_of environment name)).kept m }
+    keeps_meaning mesh environment (Field place name arg) h =
+        keeps_then leads (keeps_meaning mesh environment arg (λ a t. h a (inl t)))
+        (λ v. keeps_then leads (keeps_element_of v) (λ x. keeps_field_read mesh place (binding_of environment name) x (λ a t. h a (inr t))))
+    keeps_meaning mesh environment (Call place fun arg) h =
+        keeps_then leads (keeps_meaning mesh environment arg h) (λ v. keeps_then leads (keeps_element_of v) (λ x. keeps_call mesh place fun x))
+    keeps_meaning mesh environment (Towards place arg to) h =
+        keeps_then leads (keeps_meaning mesh environment arg (λ a t. h a (inl t))) (λ v. keeps_then leads (keeps_element_of v)
+        (λ x. keeps_then leads (keeps_meaning mesh environment to (λ a t. h a (inr t)))
         (λ w. keeps_then leads (keeps_element_of w) (λ y. value_keeps (ElementValue (towards mesh x y))))))
-    keeps_meaning mesh names (Neg place arg) h = keeps_then leads (keeps_meaning mesh names arg h) (λ v. keeps_negated place v)
-    keeps_meaning mesh names (Not place arg) h = keeps_then leads (keeps_meaning mesh names arg h) (λ v. keeps_denied v)
-    keeps_meaning mesh names (Chain level first links) h =
-        keeps_then leads (keeps_meaning mesh names first (λ a t. h a (inl t))) (λ v. keeps_behind mesh names v links (λ a t. h a (inr t)))
-    keeps_meaning mesh names (Compare place rel left right) h =
-        keeps_then leads (keeps_meaning mesh names left (λ a t. h a (inl t)))
-        (λ v. keeps_then leads (keeps_meaning mesh names right (λ a t. h a (inr t))) (λ w. keeps_compared rel v w))
+    keeps_meaning mesh environment (Neg place arg) h = keeps_then leads (keeps_meaning mesh environment arg h) (λ v. keeps_negated place v)
+    keeps_meaning mesh environment (Not place arg) h = keeps_then leads (keeps_meaning mesh environment arg h) (λ v. keeps_denied v)
+    keeps_meaning mesh environment (Chain level first links) h =
+        keeps_then leads (keeps_meaning mesh environment first (λ a t. h a (inl t))) (λ v. keeps_behind mesh environment v links (λ a t. h a (inr t)))
+    keeps_meaning mesh environment (Compare place rel left right) h =
+        keeps_then leads (keeps_meaning mesh environment left (λ a t. h a (inl t)))
+        (λ v. keeps_then leads (keeps_meaning mesh environment right (λ a t. h a (inr t))) (λ w. keeps_compared rel v w))
 
-    keeps_behind : (mesh : MeshLists) (names : Names) (v : Value) (links : Links) → Only (λ a. TouchesBehind names a links)
-        → Keeps R (meaning_behind mesh names v links)
-    keeps_behind mesh names v no_links h = record { kept = k.same }
-    keeps_behind mesh names v (link sign place arg more) h =
+    keeps_behind : (mesh : MeshLists) (environment : Environment) (v : Value) (links : Links) → Only (λ a. TouchesBehind environment a links)
+        → Keeps R (meaning_behind mesh environment v links)
+    keeps_behind mesh environment v no_links h = record { kept = k.same }
+    keeps_behind mesh environment v (link sign place arg rest) h =
         keeps_then leads (keeps_either (is_decided sign v) (value_keeps v)
-        (keeps_then leads (keeps_meaning mesh names arg (λ a t. h a (inl t))) (λ w. keeps_operated sign place v w)))
-        (λ u. keeps_behind mesh names u more (λ a t. h a (inr t)))
+        (keeps_then leads (keeps_meaning mesh environment arg (λ a t. h a (inl t))) (λ w. keeps_operated sign place v w)))
+        (λ u. keeps_behind mesh environment u rest (λ a t. h a (inr t)))
 
-  pub keeps_number_in : (mesh : MeshLists) (names : Names) (e : Expression) → Only (λ a. Touches names a e) → Keeps R (number_in mesh names e)
-  keeps_number_in mesh names e h = keeps_then leads (keeps_meaning mesh names e h) (λ v. keeps_number_of v)
+  pub keeps_number_in : (mesh : MeshLists) (environment : Environment) (e : Expression) → Only (λ a. Touches environment a e) → Keeps R (number_in mesh environment e)
+  keeps_number_in mesh environment e h = keeps_then leads (keeps_meaning mesh environment e h) (λ v. keeps_number_of v)
 
-  pub keeps_truth_in : (mesh : MeshLists) (names : Names) (e : Expression) → Only (λ a. Touches names a e) → Keeps R (truth_in mesh names e)
-  keeps_truth_in mesh names e h = keeps_then leads (keeps_meaning mesh names e h) (λ v. keeps_truth_of v)
+  pub keeps_truth_in : (mesh : MeshLists) (environment : Environment) (e : Expression) → Only (λ a. Touches environment a e) → Keeps R (truth_in mesh environment e)
+  keeps_truth_in mesh environment e h = keeps_then leads (keeps_meaning mesh environment e h) (λ v. keeps_truth_of v)
 
-  keeps_element_in : (mesh : MeshLists) (names : Names) (e : Expression) → Only (λ a. Touches names a e) → Keeps R (element_in mesh names e)
-  keeps_element_in mesh names e h = keeps_then leads (keeps_meaning mesh names e h) (λ v. keeps_element_of v)
+  keeps_element_in : (mesh : MeshLists) (environment : Environment) (e : Expression) → Only (λ a. Touches environment a e) → Keeps R (element_in mesh environment e)
+  keeps_element_in mesh environment e h = keeps_then leads (keeps_meaning mesh environment e h) (λ v. keeps_element_of v)
 
   -- single steps of statements
   keeps_spot : (spot : Spot) (how : How) (n : ℤ) (m : Moment) (value : Option ℤ) → P (OfField spot.field, mode_by how)
@@ -222,7 +222,7 @@ module _ {P : Access → Type 0} {R : Moment → Moment → Type 0} (k : IsKept 
   keeps_spot spot how n m (Some old) h e = k.spot_set spot how n old m h e
   keeps_spot spot how n m None h e = k.same m
 
-  keeps_field_assigned : (place : Place) (how : How) (global : Option Named) (n : ℤ) (x : Option Elem)
+  keeps_field_assigned : (place : Place) (how : How) (global : Option Binding) (n : ℤ) (x : Option Elem)
       → Only (TouchesField global (mode_by how)) → Keeps R (field_assigned place how global n x)
   keeps_field_assigned place how (Some (FieldName number kind)) n (Some x) h =
       record { kept = λ m. keeps_spot (spot_of number x) how n m (value_in m.state.fields (spot_of number x)) (h _ refl) refl }
@@ -233,19 +233,19 @@ module _ {P : Access → Type 0} {R : Moment → Moment → Type 0} (k : IsKept 
   keeps_scalar_assigned how n scalar (Some old) h = record { kept = λ m. k.scalar_set how n scalar old m h }
   keeps_scalar_assigned how n scalar None h = record { kept = k.same }
 
-  keeps_global_assigned : (how : How) (n : ℤ) (global : Option Named) → Only (TouchesScalar global (mode_by how)) → Keeps R (global_assigned how n global)
+  keeps_global_assigned : (how : How) (n : ℤ) (global : Option Binding) → Only (TouchesScalar global (mode_by how)) → Keeps R (global_assigned how n global)
   keeps_global_assigned how n (Some (ScalarName number)) h =
       record { kept = λ m. (keeps_scalar_assigned how n number (scalar_value m.state number) (h _ refl)).kept m }
   keeps_global_assigned how n _ h = record { kept = k.same }
 
-  keeps_name_assigned : (name : List ℕ) (how : How) (n : ℤ) (value : Option ℤ) (global : Option Named)
+  keeps_name_assigned : (name : List ℕ) (how : How) (n : ℤ) (value : Option ℤ) (global : Option Binding)
       → Only (TouchesScalar global (mode_by how)) → Keeps R (name_assigned name how n value global)
   keeps_name_assigned name how n (Some old) global h = record { kept = k.local_set name (assigned how old n) }
   keeps_name_assigned name how n None global h = keeps_global_assigned how n global h
 
-  local_assigned_keeps : (names : Names) (name : List ℕ) (how : How) (n : ℤ) → Only (TouchesScalar (named names name) (mode_by how))
-      → Keeps R (λ m. name_assigned name how n (local_named m name) (named names name) m)
-  local_assigned_keeps names name how n h = record { kept = λ m. (keeps_name_assigned name how n (local_named m name) (named names name) h).kept m }
+  local_assigned_keeps : (environment : Environment) (name : List ℕ) (how : How) (n : ℤ) → Only (TouchesScalar (binding_of environment name) (mode_by how))
+      → Keeps R (λ m. name_assigned name how n (local_named m name) (binding_of environment name) m)
+  local_assigned_keeps environment name how n h = record { kept = λ m. (keeps_name_assigned name how n (local_named m name) (binding_of environment name) h).kept m }
 
   local_keeps : (name : List ℕ) (n : ℤ) → Keeps R (changes (with_local name n))
   local_keeps name n = record { kept = k.local name n }
@@ -254,7 +254,7 @@ module _ {P : Access → Type 0} {R : Moment → Moment → Type 0} (k : IsKept 
   element_keeps name x = record { kept = k.element name x }
 
   keeps_block_end : (before s : Moment) → R before s → (answer : Result (Unit {0}) Stop)
-      → R before (go_on (λ done. changes (out_of_block before)) s answer).after
+      → R before (go_on (λ done. changes (after_block before)) s answer).after
   keeps_block_end before s r (Ok done) = k.block before s r
   keeps_block_end before s r (Err stop) = r
 
@@ -271,28 +271,28 @@ module _ {P : Access → Type 0} {R : Moment → Moment → Type 0} (k : IsKept 
 
   -- statements and bodies
   mutual
-    pub keeps_statement : (mesh : MeshLists) (names : Names) (s : Statement) → Only (λ a. StatementTouches names a s)
-        → Keeps R (statement_meaning mesh names s)
-    keeps_statement mesh names (Var place name at init) h = keeps_then leads (keeps_number_in mesh names init h) (λ n. local_keeps name n)
-    keeps_statement mesh names (Val place name at init) h = keeps_then leads (keeps_element_in mesh names init h) (λ x. element_keeps name x)
-    keeps_statement mesh names (Assign place name (Some target) how set_to) h =
-        keeps_then leads (keeps_number_in mesh names set_to (λ a t. h a (inr t)))
-        (λ n. keeps_then leads (keeps_element_in mesh names target (λ a t. h a (inl (inl t))))
-        (λ x. keeps_field_assigned place how (named names name) n x (λ a t. h a (inl (inr t)))))
-    keeps_statement mesh names (Assign place name None how set_to) h =
-        keeps_then leads (keeps_number_in mesh names set_to (λ a t. h a (inr t))) (λ n. local_assigned_keeps names name how n (λ a t. h a (inl t)))
-    keeps_statement mesh names (If place test first second has_else) h =
-        keeps_then leads (keeps_truth_in mesh names test (λ a t. h a (inl (inl t))))
-        (λ b. keeps_either b (keeps_in_block (keeps_body mesh names first (λ a t. h a (inl (inr t)))))
-        (keeps_in_block (keeps_body mesh names second (λ a t. h a (inr t)))))
-    keeps_statement mesh names (While place test body) h =
-        keeps_loop leads moment_turns k.turn (spent_keeps place) (keeps_truth_in mesh names test (λ a t. h a (inl t)))
-        (keeps_in_block (keeps_body mesh names body (λ a t. h a (inr t))))
-    keeps_statement mesh names (For place name at set set_at arg body) h =
-        keeps_then leads (keeps_element_in mesh names arg (λ a t. h a (inl t))) (λ x. keeps_members mesh set_at
-        (λ member. keeps_then leads (element_keeps name member) (λ done. keeps_body mesh names body (λ a t. h a (inr t)))) (members mesh set) x)
+    pub keeps_statement : (mesh : MeshLists) (environment : Environment) (s : Statement) → Only (λ a. StatementTouches environment a s)
+        → Keeps R (statement_meaning mesh environment s)
+    keeps_statement mesh environment (Var place name at init) h = keeps_then leads (keeps_number_in mesh environment init h) (λ n. local_keeps name n)
+    keeps_statement mesh environment (Val place name at init) h = keeps_then leads (keeps_element_in mesh environment init h) (λ x. element_keeps name x)
+    keeps_statement mesh environment (Assign place name (Some target) how set_to) h =
+        keeps_then leads (keeps_number_in mesh environment set_to (λ a t. h a (inr t)))
+        (λ n. keeps_then leads (keeps_element_in mesh environment target (λ a t. h a (inl (inl t))))
+        (λ x. keeps_field_assigned place how (binding_of environment name) n x (λ a t. h a (inl (inr t)))))
+    keeps_statement mesh environment (Assign place name None how set_to) h =
+        keeps_then leads (keeps_number_in mesh environment set_to (λ a t. h a (inr t))) (λ n. local_assigned_keeps environment name how n (λ a t. h a (inl t)))
+    keeps_statement mesh environment (If place test first second has_else) h =
+        keeps_then leads (keeps_truth_in mesh environment test (λ a t. h a (inl (inl t))))
+        (λ b. keeps_either b (keeps_in_block (keeps_body mesh environment first (λ a t. h a (inl (inr t)))))
+        (keeps_in_block (keeps_body mesh environment second (λ a t. h a (inr t)))))
+    keeps_statement mesh environment (While place test body) h =
+        keeps_loop leads moment_turns k.turn (spent_keeps place) (keeps_truth_in mesh environment test (λ a t. h a (inl t)))
+        (keeps_in_block (keeps_body mesh environment body (λ a t. h a (inr t))))
+    keeps_statement mesh environment (For place name at set set_at arg body) h =
+        keeps_then leads (keeps_element_in mesh environment arg (λ a t. h a (inl t))) (λ x. keeps_members mesh set_at
+        (λ member. keeps_then leads (element_keeps name member) (λ done. keeps_body mesh environment body (λ a t. h a (inr t)))) (members mesh set) x)
 
-    pub keeps_body : (mesh : MeshLists) (names : Names) (body : Body) → Only (λ a. BodyTouches names a body) → Keeps R (body_meaning mesh names body)
-    keeps_body mesh names no_statement h = record { kept = k.same }
-    keeps_body mesh names (statement s more) h =
-        keeps_then leads (keeps_statement mesh names s (λ a t. h a (inl t))) (λ done. keeps_body mesh names more (λ a t. h a (inr t)))
+    pub keeps_body : (mesh : MeshLists) (environment : Environment) (body : Body) → Only (λ a. BodyTouches environment a body) → Keeps R (body_meaning mesh environment body)
+    keeps_body mesh environment no_statement h = record { kept = k.same }
+    keeps_body mesh environment (statement s rest) h =
+        keeps_then leads (keeps_statement mesh environment s (λ a t. h a (inl t))) (λ done. keeps_body mesh environment rest (λ a t. h a (inr t)))

@@ -37,7 +37,7 @@ turns_kept =
 
 -- no act, and one act
 no_act : (m after : Moment) → after.acts ≡ m.acts → after.state.fields ≡ m.state.fields → MakesFields m after
-no_act m after e f = record { more = []; acts_are = e ∙ sym (append-nil m.acts); fields_are = f }
+no_act m after e f = record { rest = []; acts_are = e ∙ sym (append-nil m.acts); fields_are = f }
 
 folded_acts : (how : How) (n : ℤ) (scalar : ℕ) (old : ℤ) (m : Moment) → MakesFields m (folded how n scalar old m)
 folded_acts Set n scalar old m = no_act m _ refl refl
@@ -55,16 +55,16 @@ set_is_act spot Set n old fields = refl
 set_is_act spot (Fold op) n old fields = refl
 set_is_act spot Less n old fields = refl
 
-after_more : (acts more : List Act) (fields : Fields) → after_acts fields (acts ++ more) ≡ after_acts (after_acts fields acts) more
-after_more [] more fields = refl
-after_more (act ∷ acts) more fields = after_more acts more (by_act act (value_in fields act.spot) fields)
+after_more : (acts rest : List Act) (fields : Fields) → after_acts fields (acts ++ rest) ≡ after_acts (after_acts fields acts) rest
+after_more [] rest fields = refl
+after_more (act ∷ acts) rest fields = after_more acts rest (by_act act (value_in fields act.spot) fields)
 
 both : (a b c : Moment) → MakesFields a b → MakesFields b c → MakesFields a c
 both a b c r s =
     record {
-      more = r.more ++ s.more;
-      acts_are = s.acts_are ∙ ap (λ acts. acts ++ s.more) r.acts_are ∙ append_assoc a.acts r.more s.more;
-      fields_are = s.fields_are ∙ ap (λ fields. after_acts fields s.more) r.fields_are ∙ sym (after_more r.more s.more a.state.fields);
+      rest = r.rest ++ s.rest;
+      acts_are = s.acts_are ∙ ap (λ acts. acts ++ s.rest) r.acts_are ∙ append_assoc a.acts r.rest s.rest;
+      fields_are = s.fields_are ∙ ap (λ fields. after_acts fields s.rest) r.fields_are ∙ sym (after_more r.rest s.rest a.state.fields);
     }
 
 pub fields_made : IsKept (λ a. Unit {0}) MakesFields
@@ -76,17 +76,17 @@ fields_made =
       local_set = λ name n m. no_act m _ refl refl;
       element = λ name x m. no_act m _ refl refl;
       read = λ spot n m any. record {
-        more = record { spot = spot; mode = Read; value = n } ∷ [];
+        rest = record { spot = spot; mode = Read; value = n } ∷ [];
         acts_are = refl;
         fields_are = sym (read_changes_nothing spot n (value_in m.state.fields spot) m.state.fields);
       };
       spot_set = λ spot how n old m any e. record {
-        more = record { spot = spot; mode = mode_by how; value = operand how n } ∷ [];
+        rest = record { spot = spot; mode = mode_by how; value = operand how n } ∷ [];
         acts_are = refl;
         fields_are = sym (set_is_act spot how n old m.state.fields)
             ∙ ap (λ value. by_act (record { spot = spot; mode = mode_by how; value = operand how n }) value m.state.fields) (sym e);
       };
       scalar_set = λ how n scalar old m any. folded_acts how n scalar old m;
-      block = λ before m r. record { more = r.more; acts_are = r.acts_are; fields_are = r.fields_are };
+      block = λ before m r. record { rest = r.rest; acts_are = r.acts_are; fields_are = r.fields_are };
       turn = λ n m e. no_act m _ refl refl;
     }

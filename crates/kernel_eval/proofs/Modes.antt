@@ -8,7 +8,7 @@ use Rattle.liszt_base.specs.MeshLists.{MeshLists}
 use Rattle.liszt_base.specs.declared.accesses.Spot.{Spot}
 use Rattle.liszt_tree.specs.declared.tree.How.{How}
 use Rattle.liszt_tree.specs.declared.tree.How.TheVariants.{Set}
-use Rattle.phase_types.specs.Names.{Comprehension, found}
+use Rattle.phase_types.specs.Environments.{Comprehension, lookup}
 use Rattle.phase_types.specs.Typed.{ComprehensionFits}
 use Rattle.phase_types.specs.Walk.{OfField, OfScalar, mode_by, mode_in}
 use Rattle.kernel_eval.specs.Iterations.{opening, iteration}
@@ -30,7 +30,7 @@ all_and_one Holds (y ∷ ys) x all h = (all.0, all_and_one Holds ys x all.1 h)
 
 -- a field elsewhere than a spot that is set
 elsewhere : (spot : Spot) (value : ℤ) (field : ℕ) → (spot.field ≡ field → ⊥) → (fields : Fields)
-    → found (λ number. number == field) (with_value spot value fields) ≡ found (λ number. number == field) fields
+    → lookup (λ number. number == field) (with_value spot value fields) ≡ lookup (λ number. number == field) fields
 elsewhere spot value field other [] = refl
 elsewhere spot value field other (entry ∷ fields) = grind (arith, nat_tests, elsewhere spot value field other fields)
 
@@ -71,4 +71,4 @@ modes_kept c =
 
 pub iteration_in_modes : (mesh : MeshLists) (c : Comprehension) (turns : ℕ) (s : State) (id : ℕ) → ComprehensionFits c
     → KeepsModes c (opening c turns s id) (iteration mesh c turns s id).after
-iteration_in_modes mesh c turns s id fits = (keeps_body (modes_kept c) mesh c.names c.body (touched_in_mode c fits)).kept (opening c turns s id)
+iteration_in_modes mesh c turns s id fits = (keeps_body (modes_kept c) mesh c.environment c.body (touched_in_mode c fits)).kept (opening c turns s id)

@@ -11,11 +11,11 @@ use Rattle.liszt_base.specs.MeshLists.{MeshLists}
 use Rattle.liszt_base.specs.declared.accesses.Spot.{Spot}
 use Rattle.liszt_tree.specs.declared.tree.How.{How}
 use Rattle.liszt_tree.specs.declared.tree.How.TheVariants.{Set}
-use Rattle.phase_types.specs.Names.{Names, Named, FieldName, ScalarName, found}
+use Rattle.phase_types.specs.Environments.{Environment, Binding, FieldName, ScalarName, lookup}
 use Rattle.phase_types.specs.Walk.{mode_by}
 use Rattle.kernel_eval.specs.Fits.{EntryFits, StateFits}
 use Rattle.kernel_eval.specs.Meaning.{operand, assigned, folds_of}
-use Rattle.kernel_eval.specs.States.{Fields, set_in, with_value, replaced, with_fields, State, with_scalar_value, Moment, local_named, with_local_value, with_act, with_state, out_of_block}
+use Rattle.kernel_eval.specs.States.{Fields, set_in, with_value, replaced, with_fields, State, with_scalar_value, Moment, local_named, with_local_value, with_act, with_state, after_block}
 use Rattle.kernel_eval.proofs.Keeping.{IsKept}
 
 -- THE SHAPE of a finite map: its keys, each with what is kept of its value
@@ -32,16 +32,16 @@ abbrev pub length_of : List ℤ → ℕ
 length_of values = length values
 
 module _ {K A B : Type 0} (of : A → B) where
-  found_shape : (is_key : K → Bool) (entries : List (K × A)) → found is_key (shape of entries) ≡ option_map of (found is_key entries)
-  found_shape is_key [] = refl
-  found_shape is_key (entry ∷ entries) = elim (cases_Bool (is_key entry.0)) [
+  lookup_shape : (is_key : K → Bool) (entries : List (K × A)) → lookup is_key (shape of entries) ≡ option_map of (lookup is_key entries)
+  lookup_shape is_key [] = refl
+  lookup_shape is_key (entry ∷ entries) = elim (cases_Bool (is_key entry.0)) [
     | inl is ↦ rw is refl
-    | inr is ↦ rw is (found_shape is_key entries)
+    | inr is ↦ rw is (lookup_shape is_key entries)
   ]
 
-  same_found : (is_key : K → Bool) (xs ys : List (K × A)) → shape of ys ≡ shape of xs
-      → option_map of (found is_key ys) ≡ option_map of (found is_key xs)
-  same_found is_key xs ys e = sym (found_shape is_key ys) ∙ ap (found is_key) e ∙ found_shape is_key xs
+  same_lookup : (is_key : K → Bool) (xs ys : List (K × A)) → shape of ys ≡ shape of xs
+      → option_map of (lookup is_key ys) ≡ option_map of (lookup is_key xs)
+  same_lookup is_key xs ys e = sym (lookup_shape is_key ys) ∙ ap (lookup is_key) e ∙ lookup_shape is_key xs
 
   changed_shape : (change : K × A → K × A) → ((entry : K × A) → shaped of (change entry) ≡ shaped of entry) → (entries : List (K × A))
       → shape of (map change entries) ≡ shape of entries
@@ -70,15 +70,15 @@ pub record IsLike (s t : State) : Type 0 where
   pub fields : shape length_of t.fields ≡ shape length_of s.fields
   pub scalars : shape nothing_of t.scalars ≡ shape nothing_of s.scalars
 
-like_fits : (mesh : MeshLists) (s t : State) → IsLike s t → (entry : Named) → EntryFits mesh s entry → EntryFits mesh t entry
+like_fits : (mesh : MeshLists) (s t : State) → IsLike s t → (entry : Binding) → EntryFits mesh s entry → EntryFits mesh t entry
 like_fits mesh s t like (ScalarName number) h =
-    found_both _ _ (same_found nothing_of (λ other. other == number) s.scalars t.scalars like.scalars) ∙ h
+    found_both _ _ (same_lookup nothing_of (λ other. other == number) s.scalars t.scalars like.scalars) ∙ h
 like_fits mesh s t like (FieldName number kind) (inl is) = inl is
 like_fits mesh s t like (FieldName number kind) (inr is) =
-    inr (is.0, same_found length_of (λ other. other == number) s.fields t.fields like.fields ∙ is.1)
+    inr (is.0, same_lookup length_of (λ other. other == number) s.fields t.fields like.fields ∙ is.1)
 like_fits mesh s t like _ h = h
 
-pub fits_again : {mesh : MeshLists} {names : Names} {s t : State} → IsLike s t → StateFits mesh names s → StateFits mesh names t
+pub fits_again : {mesh : MeshLists} {environment : Environment} {s t : State} → IsLike s t → StateFits mesh environment s → StateFits mesh environment t
 fits_again {mesh = mesh} {s = s} {t = t} like h = record { entry_fits = λ name entry is. like_fits mesh s t like entry (h.entry_fits name entry is) }
 
 -- A MOMENT has the shape of another one: the same fields and scalars, and the same names, with the same elements
@@ -88,7 +88,7 @@ pub record HasShape (m after : Moment) : Type 0 where
   pub elements : after.elements ≡ m.elements
 
 pub same_locals : (m after : Moment) → HasShape m after → (name : List ℕ) → is_some (local_named after name) ≡ is_some (local_named m name)
-same_locals m after r name = found_both _ _ (same_found nothing_of (bytes_eq name) m.locals after.locals r.locals)
+same_locals m after r name = found_both _ _ (same_lookup nothing_of (bytes_eq name) m.locals after.locals r.locals)
 
 pub like_itself : (s : State) → IsLike s s
 like_itself s = record { fields = refl; scalars = refl }
@@ -133,7 +133,7 @@ pub record KeepsShape (m after : Moment) : Type 0 where
   pub elements : Extends m.elements after.elements
 
 -- so that a block's end has them again
-pub out_again : (before m : Moment) → KeepsShape before m → HasShape before (out_of_block before m)
+pub out_again : (before m : Moment) → KeepsShape before m → HasShape before (after_block before m)
 out_again before m r = record { like = r.like; locals = locals; elements = dropped before.elements m.elements r.elements } where
   n : ℕ
   n = length m.locals - length before.locals

@@ -5,7 +5,7 @@ use Rattle.liszt_base.specs.MeshLists.{MeshLists}
 use Rattle.liszt_base.specs.declared.elements.Kind.{Kind}
 use Rattle.liszt_base.specs.declared.elements.Kind.TheVariants.{Vertex, Cell}
 use Rattle.mesh_topology.specs.Elements.{count}
-use Rattle.phase_types.specs.Names.{Names, Named, FieldName, ScalarName, named, is_built_in}
+use Rattle.phase_types.specs.Environments.{Environment, Binding, FieldName, ScalarName, binding_of, is_built_in}
 use Rattle.kernel_eval.specs.Kept.{field_values}
 use Rattle.kernel_eval.specs.States.{State, scalar_value}
 
@@ -19,10 +19,10 @@ IsLive mesh s number kind = (is_built_in number ≡ false) × (option_map (λ va
 
 -- A STATE FITS what a name stands for in the main program: a scalar has a number there, and a field is built in or live. Local numbers and
 -- elements aren't names of the main program.
-abbrev pub EntryFits : MeshLists → State → Named → Type 0
+abbrev pub EntryFits : MeshLists → State → Binding → Type 0
 EntryFits mesh s (ScalarName number) = is_some (scalar_value s number) ≡ true
 EntryFits mesh s (FieldName number kind) = IsBuiltIn number kind ⊎ IsLive mesh s number kind
 EntryFits mesh s _ = ⊥
 
-pub record StateFits (mesh : MeshLists) (names : Names) (s : State) : Type 0 where
-  pub entry_fits : (name : List ℕ) (entry : Named) → named names name ≡ Some entry → EntryFits mesh s entry
+pub record StateFits (mesh : MeshLists) (environment : Environment) (s : State) : Type 0 where
+  pub entry_fits : (name : List ℕ) (entry : Binding) → binding_of environment name ≡ Some entry → EntryFits mesh s entry

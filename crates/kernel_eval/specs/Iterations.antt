@@ -8,7 +8,7 @@ use Rattle.liszt_base.specs.declared.accesses.Mode.TheVariants.{Reduce}
 use Rattle.liszt_base.specs.declared.answers.RunEnd.{RunEnd}
 use Rattle.liszt_base.specs.declared.answers.RunEnd.TheVariants.{Done as IsDone, Trap as IsTrap}
 use Rattle.topo_operators.specs.Operators.{unflipped}
-use Rattle.phase_types.specs.Names.{Comprehension}
+use Rattle.phase_types.specs.Environments.{Comprehension}
 use Rattle.phase_types.specs.Walk.{OfScalar, mode_in}
 use Rattle.kernel_eval.specs.Outcomes.{Stop, Trapped, NoMeaning, Outcome, Done}
 use Rattle.kernel_eval.specs.States.{State, Act, Moment}
@@ -27,7 +27,7 @@ opening c turns s id =
     }
 
 abbrev pub iteration : MeshLists → Comprehension → ℕ → State → ℕ → Outcome Moment Done
-iteration mesh c turns s id = body_meaning mesh c.names c.body (opening c turns s id)
+iteration mesh c turns s id = body_meaning mesh c.environment c.body (opening c turns s id)
 
 -- its acts, in order, up to its end or trap
 abbrev pub acts : MeshLists → Comprehension → ℕ → State → ℕ → List Act

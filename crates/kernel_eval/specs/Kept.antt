@@ -3,7 +3,7 @@ use Rattle.std.specs.Prelude.{◌≡◌, ℕ, ◌≤◌, ◌==◌, ◌++◌, Boo
 use Rattle.liszt_base.specs.Reductions.{fold}
 use Rattle.liszt_base.specs.declared.accesses.Mode.{Mode}
 use Rattle.liszt_base.specs.declared.accesses.Mode.TheVariants.{Read, Write, Reduce}
-use Rattle.phase_types.specs.Names.{Comprehension, found}
+use Rattle.phase_types.specs.Environments.{Comprehension, lookup}
 use Rattle.phase_types.specs.Walk.{OfField, OfScalar, mode_in}
 use Rattle.kernel_eval.specs.Outcomes.{Outcome, ◌>>=◌, ◌>>◌, either, does_nothing, Turns, taking_a_turn}
 use Rattle.kernel_eval.specs.States.{Fields, value_in, with_value, State, Act, ScalarFold, Moment}
@@ -26,13 +26,13 @@ by_act act (Some old) fields = by_mode act.mode where
 
 abbrev pub after_acts : Fields → List Act → Fields
 after_acts fields [] = fields
-after_acts fields (act ∷ more) = after_acts (by_act act (value_in fields act.spot) fields) more
+after_acts fields (act ∷ rest) = after_acts (by_act act (value_in fields act.spot) fields) rest
 
 -- the acts are those from before and some more, and these make the fields
 pub record MakesFields (m after : Moment) : Type 0 where
-  pub more : List Act
-  pub acts_are : after.acts ≡ m.acts ++ more
-  pub fields_are : after.state.fields ≡ after_acts m.state.fields more
+  pub rest : List Act
+  pub acts_are : after.acts ≡ m.acts ++ rest
+  pub fields_are : after.state.fields ≡ after_acts m.state.fields rest
 
 -- THE ONE MODE of an act's field, or of a reduced scalar, in a comprehension; and what a mode, or none, leaves as it was
 abbrev pub HasTheMode : Comprehension → Act → Type 0
@@ -47,7 +47,7 @@ ChangesNothing (Some Read) = Unit {0}
 ChangesNothing (Some mode) = ⊥
 
 abbrev pub field_values : State → ℕ → Option (List ℤ)
-field_values s field = found (λ number. number == field) s.fields
+field_values s field = lookup (λ number. number == field) s.fields
 
 -- A LOOP ONCE MORE: its test, and where that is true a turn and the body, and then the loop
 abbrev pub loop_once : {S : Type 0} → Turns S → (S → Outcome S (Unit {0})) → (S → Outcome S Bool) → (S → Outcome S (Unit {0}))

@@ -22,10 +22,10 @@ use Rattle.liszt_tree.specs.declared.tree.Sign.TheVariants.{Or, And, Plus, Minus
 use Rattle.liszt_tree.specs.Tree.{Expression, Number, Name, Field, Call, Towards, Neg, Not, Chain, Compare, Links, no_links, link}
 use Rattle.liszt_tree.specs.Tree.{Statement, Var, Val, Assign, If, While, For, Body, no_statement, statement}
 use Rattle.topo_operators.specs.Operators.{head, tail, inside, outside, flip, towards, same, valid, members}
-use Rattle.phase_types.specs.Names.{Names, Named, FieldName, ScalarName, named, is_built_in}
+use Rattle.phase_types.specs.Environments.{Environment, Binding, FieldName, ScalarName, binding_of, is_built_in}
 use Rattle.phase_types.specs.Walk.{mode_by}
 use Rattle.kernel_eval.specs.Outcomes.{Trapped, NoMeaning, Outcome, Doing, Done, gives, stops, changes, does_nothing, ◌>>=◌, ◌>>◌, either, each, Turns, loop}
-use Rattle.kernel_eval.specs.States.{State, value_in, with_value, with_fields, scalar_value, with_scalar_value, Moment, element_named, local_named, with_element, with_local, with_local_value, with_act, with_fold, with_state, out_of_block}
+use Rattle.kernel_eval.specs.States.{State, value_in, with_value, with_fields, scalar_value, with_scalar_value, Moment, element_named, local_named, with_element, with_local, with_local_value, with_act, with_fold, with_state, after_block}
 
 -- VALUES: a number, a truth value, an element or nil
 pub data Value : Type 0 where
@@ -121,11 +121,11 @@ abbrev pub scalar_read : Option ℤ → Doing Moment Value
 scalar_read (Some n) = gives (NumberValue n)
 scalar_read None = no_meaning
 
-abbrev pub global_read : Option Named → Doing Moment Value
+abbrev pub global_read : Option Binding → Doing Moment Value
 global_read (Some (ScalarName number)) = λ m. scalar_read (scalar_value m.state number) m
 global_read _ = no_meaning
 
-abbrev pub name_read : Option ℤ → Option (Option Elem) → Option Named → Doing Moment Value
+abbrev pub name_read : Option ℤ → Option (Option Elem) → Option Binding → Doing Moment Value
 name_read (Some n) x global = gives (NumberValue n)
 name_read None (Some x) global = gives (ElementValue x)
 name_read None None global = global_read global
@@ -146,7 +146,7 @@ abbrev pub read_spot : Spot → Option ℤ → Doing Moment Value
 read_spot spot (Some n) = λ m. gives (NumberValue n) (with_act (record { spot = spot; mode = Read; value = n }) m)
 read_spot spot None = no_meaning
 
-abbrev pub field_read : MeshLists → Place → Option Named → Option Elem → Doing Moment Value
+abbrev pub field_read : MeshLists → Place → Option Binding → Option Elem → Doing Moment Value
 field_read mesh place (Some (FieldName number kind)) (Some x) = λ m. read_spot (spot_of number x) (held mesh m.state (spot_of number x)) m
 field_read mesh place (Some (FieldName number kind)) None = traps NilElement place
 field_read mesh place _ x = no_meaning
@@ -154,31 +154,31 @@ field_read mesh place _ x = no_meaning
 -- EXPRESSIONS, from the left, operands before operators; a chain is a fold from the left, which passes over the
 -- operands behind one that decides
 abbrev mutual
-  pub meaning : MeshLists → Names → Expression → Doing Moment Value
-  meaning mesh names (Number place n) = gives (NumberValue n)
-  meaning mesh names (Name place name) = λ m. name_read (local_named m name) (element_named m name) (named names name) m
-  meaning mesh names (Field place name arg) = meaning mesh names arg >>= λ v. element_of v >>= λ x. field_read mesh place (named names name) x
-  meaning mesh names (Call place fun arg) = meaning mesh names arg >>= λ v. element_of v >>= λ x. call_of mesh place fun x
-  meaning mesh names (Towards place arg to) =
-      meaning mesh names arg >>= λ v. element_of v >>= λ x. meaning mesh names to >>= λ w. element_of w >>= λ y. gives (ElementValue (towards mesh x y))
-  meaning mesh names (Neg place arg) = meaning mesh names arg >>= λ v. negated place v
-  meaning mesh names (Not place arg) = meaning mesh names arg >>= λ v. denied v
-  meaning mesh names (Chain level first links) = meaning mesh names first >>= λ v. meaning_behind mesh names v links
-  meaning mesh names (Compare place rel left right) = meaning mesh names left >>= λ v. meaning mesh names right >>= λ w. compared rel v w
+  pub meaning : MeshLists → Environment → Expression → Doing Moment Value
+  meaning mesh environment (Number place n) = gives (NumberValue n)
+  meaning mesh environment (Name place name) = λ m. name_read (local_named m name) (element_named m name) (binding_of environment name) m
+  meaning mesh environment (Field place name arg) = meaning mesh environment arg >>= λ v. element_of v >>= λ x. field_read mesh place (binding_of environment name) x
+  meaning mesh environment (Call place fun arg) = meaning mesh environment arg >>= λ v. element_of v >>= λ x. call_of mesh place fun x
+  meaning mesh environment (Towards place arg to) =
+      meaning mesh environment arg >>= λ v. element_of v >>= λ x. meaning mesh environment to >>= λ w. element_of w >>= λ y. gives (ElementValue (towards mesh x y))
+  meaning mesh environment (Neg place arg) = meaning mesh environment arg >>= λ v. negated place v
+  meaning mesh environment (Not place arg) = meaning mesh environment arg >>= λ v. denied v
+  meaning mesh environment (Chain level first links) = meaning mesh environment first >>= λ v. meaning_behind mesh environment v links
+  meaning mesh environment (Compare place rel left right) = meaning mesh environment left >>= λ v. meaning mesh environment right >>= λ w. compared rel v w
 
-  pub meaning_behind : MeshLists → Names → Value → Links → Doing Moment Value
-  meaning_behind mesh names v no_links = gives v
-  meaning_behind mesh names v (link sign place arg more) =
-      either (is_decided sign v) (gives v) (meaning mesh names arg >>= λ w. operated sign place v w) >>= λ u. meaning_behind mesh names u more
+  pub meaning_behind : MeshLists → Environment → Value → Links → Doing Moment Value
+  meaning_behind mesh environment v no_links = gives v
+  meaning_behind mesh environment v (link sign place arg rest) =
+      either (is_decided sign v) (gives v) (meaning mesh environment arg >>= λ w. operated sign place v w) >>= λ u. meaning_behind mesh environment u rest
 
-abbrev pub number_in : MeshLists → Names → Expression → Doing Moment ℤ
-number_in mesh names e = meaning mesh names e >>= λ v. number_of v
+abbrev pub number_in : MeshLists → Environment → Expression → Doing Moment ℤ
+number_in mesh environment e = meaning mesh environment e >>= λ v. number_of v
 
-abbrev pub truth_in : MeshLists → Names → Expression → Doing Moment Bool
-truth_in mesh names e = meaning mesh names e >>= λ v. truth_of v
+abbrev pub truth_in : MeshLists → Environment → Expression → Doing Moment Bool
+truth_in mesh environment e = meaning mesh environment e >>= λ v. truth_of v
 
-abbrev pub element_in : MeshLists → Names → Expression → Doing Moment (Option Elem)
-element_in mesh names e = meaning mesh names e >>= λ v. element_of v
+abbrev pub element_in : MeshLists → Environment → Expression → Doing Moment (Option Elem)
+element_in mesh environment e = meaning mesh environment e >>= λ v. element_of v
 
 -- ASSIGNMENTS: `=` replaces; an operator folds the old value and the new one, and `-=` is `+=` of the negative number modulo 2^64.
 abbrev pub operand : How → ℤ → ℤ
@@ -195,7 +195,7 @@ spot_assigned spot how n (Some old) =
     changes (λ m. with_act (record { spot = spot; mode = mode_by how; value = operand how n }) (with_state (with_fields (with_value spot (assigned how old n) m.state.fields) m.state) m))
 spot_assigned spot how n None = no_meaning
 
-abbrev pub field_assigned : Place → How → Option Named → ℤ → Option Elem → Doing Moment Done
+abbrev pub field_assigned : Place → How → Option Binding → ℤ → Option Elem → Doing Moment Done
 field_assigned place how (Some (FieldName number kind)) n (Some x) = λ m. spot_assigned (spot_of number x) how n (value_in m.state.fields (spot_of number x)) m
 field_assigned place how (Some (FieldName number kind)) n None = traps NilElement place
 field_assigned place how _ n x = no_meaning
@@ -210,17 +210,17 @@ abbrev pub scalar_assigned : How → ℤ → ℕ → Option ℤ → Doing Moment
 scalar_assigned how n scalar (Some old) = changes (λ m. folds_of how scalar n (with_state (with_scalar_value scalar (assigned how old n) m.state) m))
 scalar_assigned how n scalar None = no_meaning
 
-abbrev pub global_assigned : How → ℤ → Option Named → Doing Moment Done
+abbrev pub global_assigned : How → ℤ → Option Binding → Doing Moment Done
 global_assigned how n (Some (ScalarName number)) = λ m. scalar_assigned how n number (scalar_value m.state number) m
 global_assigned how n _ = no_meaning
 
-abbrev pub name_assigned : List ℕ → How → ℤ → Option ℤ → Option Named → Doing Moment Done
+abbrev pub name_assigned : List ℕ → How → ℤ → Option ℤ → Option Binding → Doing Moment Done
 name_assigned name how n (Some old) global = changes (with_local_value name (assigned how old n))
 name_assigned name how n None global = global_assigned how n global
 
 -- BLOCKS, turns, and the members of a set, in its order; a set of nil traps, at the set's word
 abbrev pub in_block : Doing Moment Done → Doing Moment Done
-in_block body before = (body >> changes (out_of_block before)) before
+in_block body before = (body >> changes (after_block before)) before
 
 abbrev pub moment_turns : Turns Moment
 moment_turns = record { left = λ m. m.state.turns; leave = λ n m. with_state (record m.state { turns = n }) m }
@@ -231,21 +231,21 @@ each_member mesh place body set None = traps NilElement place
 
 -- STATEMENTS and bodies. An assignment evaluates its value, then its target.
 abbrev mutual
-  pub statement_meaning : MeshLists → Names → Statement → Doing Moment Done
-  statement_meaning mesh names (Var place name at init) = number_in mesh names init >>= λ n. changes (with_local name n)
-  statement_meaning mesh names (Val place name at init) = element_in mesh names init >>= λ x. changes (with_element name x)
-  statement_meaning mesh names (Assign place name (Some target) how set_to) =
-      number_in mesh names set_to >>= λ n. element_in mesh names target >>= λ x. field_assigned place how (named names name) n x
-  statement_meaning mesh names (Assign place name None how set_to) =
-      number_in mesh names set_to >>= λ n. λ m. name_assigned name how n (local_named m name) (named names name) m
-  statement_meaning mesh names (If place test first second has_else) =
-      truth_in mesh names test >>= λ b. either b (in_block (body_meaning mesh names first)) (in_block (body_meaning mesh names second))
-  statement_meaning mesh names (While place test body) =
-      loop moment_turns (traps Spent place) (truth_in mesh names test) (in_block (body_meaning mesh names body))
-  statement_meaning mesh names (For place name at set set_at arg body) =
-      element_in mesh names arg >>= λ x.
-      each_member mesh set_at (λ member. changes (with_element name member) >> body_meaning mesh names body) (members mesh set) x
+  pub statement_meaning : MeshLists → Environment → Statement → Doing Moment Done
+  statement_meaning mesh environment (Var place name at init) = number_in mesh environment init >>= λ n. changes (with_local name n)
+  statement_meaning mesh environment (Val place name at init) = element_in mesh environment init >>= λ x. changes (with_element name x)
+  statement_meaning mesh environment (Assign place name (Some target) how set_to) =
+      number_in mesh environment set_to >>= λ n. element_in mesh environment target >>= λ x. field_assigned place how (binding_of environment name) n x
+  statement_meaning mesh environment (Assign place name None how set_to) =
+      number_in mesh environment set_to >>= λ n. λ m. name_assigned name how n (local_named m name) (binding_of environment name) m
+  statement_meaning mesh environment (If place test first second has_else) =
+      truth_in mesh environment test >>= λ b. either b (in_block (body_meaning mesh environment first)) (in_block (body_meaning mesh environment second))
+  statement_meaning mesh environment (While place test body) =
+      loop moment_turns (traps Spent place) (truth_in mesh environment test) (in_block (body_meaning mesh environment body))
+  statement_meaning mesh environment (For place name at set set_at arg body) =
+      element_in mesh environment arg >>= λ x.
+      each_member mesh set_at (λ member. changes (with_element name member) >> body_meaning mesh environment body) (members mesh set) x
 
-  pub body_meaning : MeshLists → Names → Body → Doing Moment Done
-  body_meaning mesh names no_statement = does_nothing
-  body_meaning mesh names (statement s more) = statement_meaning mesh names s >> body_meaning mesh names more
+  pub body_meaning : MeshLists → Environment → Body → Doing Moment Done
+  body_meaning mesh environment no_statement = does_nothing
+  body_meaning mesh environment (statement s rest) = statement_meaning mesh environment s >> body_meaning mesh environment rest

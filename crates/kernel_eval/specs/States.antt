@@ -7,7 +7,7 @@ use Rattle.liszt_base.specs.declared.accesses.Mode.{Mode}
 use Rattle.liszt_base.specs.declared.accesses.Spot.{Spot}
 use Rattle.liszt_base.specs.declared.elements.Elem.{Elem}
 use Rattle.liszt_base.specs.declared.elements.Op.{Op}
-use Rattle.phase_types.specs.Names.{found}
+use Rattle.phase_types.specs.Environments.{lookup}
 
 -- a finite map with another value at a key that it has
 abbrev pub replaced : {K A : Type 0} → (K → Bool) → A → List (K × A) → List (K × A)
@@ -19,7 +19,7 @@ abbrev pub Fields : Type 0
 Fields = List (ℕ × List ℤ)
 
 abbrev pub value_in : Fields → Spot → Option ℤ
-value_in fields spot = option_and_then (λ values. slice_get values spot.id) (found (λ number. number == spot.field) fields)
+value_in fields spot = option_and_then (λ values. slice_get values spot.id) (lookup (λ number. number == spot.field) fields)
 
 abbrev pub set_in : Spot → ℤ → ℕ × List ℤ → ℕ × List ℤ
 set_in spot value entry = if entry.0 == spot.field then (entry.0, slice_set entry.1 spot.id value) else entry
@@ -38,7 +38,7 @@ abbrev pub with_fields : Fields → State → State
 with_fields fields s = record s { fields = fields }
 
 abbrev pub scalar_value : State → ℕ → Option ℤ
-scalar_value s number = found (λ other. other == number) s.scalars
+scalar_value s number = lookup (λ other. other == number) s.scalars
 
 abbrev pub with_scalar_value : ℕ → ℤ → State → State
 with_scalar_value number value s = record s { scalars = replaced (λ other. other == number) value s.scalars }
@@ -69,10 +69,10 @@ abbrev pub in_main : State → Moment
 in_main s = record { state = s; elem = None; elements = []; locals = []; acts = []; folds = [] }
 
 abbrev pub element_named : Moment → List ℕ → Option (Option Elem)
-element_named m name = found (bytes_eq name) m.elements
+element_named m name = lookup (bytes_eq name) m.elements
 
 abbrev pub local_named : Moment → List ℕ → Option ℤ
-local_named m name = found (bytes_eq name) m.locals
+local_named m name = lookup (bytes_eq name) m.locals
 
 abbrev pub with_element : List ℕ → Option Elem → Moment → Moment
 with_element name x m = record m { elements = (name, x) ∷ m.elements }
@@ -93,8 +93,8 @@ abbrev pub with_state : State → Moment → Moment
 with_state s m = record m { state = s }
 
 -- behind a block the names are those from before it, with the values that they have now
-abbrev pub out_of_block : Moment → Moment → Moment
-out_of_block before m =
+abbrev pub after_block : Moment → Moment → Moment
+after_block before m =
     record m {
       elements = drop (length m.elements - length before.elements) m.elements;
       locals = drop (length m.locals - length before.locals) m.locals;

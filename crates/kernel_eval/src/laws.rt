@@ -8,7 +8,7 @@ ghost use Rattle.liszt_base.specs.declared.answers.Place.{Place};
 ghost use Rattle.liszt_base.specs.declared.answers.TrapKind.TheVariants.{Spent};
 ghost use Rattle.liszt_tree.specs.Tree.{Body, Expression, Statement, While, statement};
 ghost use Rattle.mesh_topology.specs.Elements.{corner_lists, count};
-ghost use Rattle.phase_types.specs.Names.{Comprehension, Names};
+ghost use Rattle.phase_types.specs.Environments.{Comprehension, Environment};
 ghost use Rattle.phase_types.specs.Typed.{ComprehensionFits};
 ghost use Rattle.phase_types.specs.Walk.{OfField, mode_in};
 ghost use Rattle.kernel_eval.specs.Fits.{StateFits};
@@ -20,29 +20,29 @@ ghost use Rattle.kernel_eval.specs.Meaning.{body_meaning, in_block, moment_turns
 
 /// Turns never rise, whatever a body does.
 pub fn turns_never_rise()
-    ensures { (mesh : MeshLists) (names : Names) (body : Body) → Keeps HasNoMoreTurns (body_meaning mesh names body) }
+    ensures { (mesh : MeshLists) (environment : Environment) (body : Body) → Keeps HasNoMoreTurns (body_meaning mesh environment body) }
 {}
 
 /// The acts of a body tell all that it does to fields, also where it traps: what was there, with its writes and reductions one after the
 /// other, is what is there afterwards. So a field that no act writes or reduces stays as it was.
 pub fn acts_make_fields()
-    ensures { (mesh : MeshLists) (names : Names) (body : Body) → Keeps MakesFields (body_meaning mesh names body) }
+    ensures { (mesh : MeshLists) (environment : Environment) (body : Body) → Keeps MakesFields (body_meaning mesh environment body) }
 {}
 
 /// A `while` is its test, and where that is true a turn, its body in a block of its own, and then the same `while` again; where no turn is left it
 /// traps. So turns alone bound it.
 pub fn loops_go_on()
-    ensures { (mesh : MeshLists) (names : Names) (place : Place) (test : Expression) (body : Body) (m : Moment)
-        → statement_meaning mesh names (While place test body) m
-        ≡ loop_once moment_turns (traps Spent place) (truth_in mesh names test) (in_block (body_meaning mesh names body))
-        (statement_meaning mesh names (While place test body)) m }
+    ensures { (mesh : MeshLists) (environment : Environment) (place : Place) (test : Expression) (body : Body) (m : Moment)
+        → statement_meaning mesh environment (While place test body) m
+        ≡ loop_once moment_turns (traps Spent place) (truth_in mesh environment test) (in_block (body_meaning mesh environment body))
+        (statement_meaning mesh environment (While place test body)) m }
 {}
 
 /// Nothing happens behind a statement that stops: what stands at its stop, with its acts so far, is what the body leaves.
 pub fn stops_end()
-    ensures { (mesh : MeshLists) (names : Names) (s : Statement) (more : Body) (m : Moment) (stop : Stop)
-        → (statement_meaning mesh names s m).answer ≡ Err stop
-        → body_meaning mesh names (statement s more) m ≡ stops stop (statement_meaning mesh names s m).after }
+    ensures { (mesh : MeshLists) (environment : Environment) (s : Statement) (rest : Body) (m : Moment) (stop : Stop)
+        → (statement_meaning mesh environment s m).answer ≡ Err stop
+        → body_meaning mesh environment (statement s rest) m ≡ stops stop (statement_meaning mesh environment s m).after }
 {}
 
 /// Each act of an iteration has the one mode in which its comprehension accesses the field, and each reduction of a scalar that of the scalar.
@@ -63,7 +63,7 @@ pub fn other_fields_stay()
 /// meaning. And any iteration leaves a state that fits the names again, also where it traps.
 pub fn typed_iterations_end()
     ensures ends { (mesh : MeshLists) (c : Comprehension) (turns : ℕ) (s : State) (id : ℕ) → IsMesh (length mesh.points) (corner_lists mesh)
-        → ComprehensionFits c → StateFits mesh c.names s → id < count mesh c.over → is_some (iteration_end mesh c turns s id) ≡ true }
-    ensures fits { (mesh : MeshLists) (c : Comprehension) (turns : ℕ) (s : State) (id : ℕ) → StateFits mesh c.names s
-        → StateFits mesh c.names (iteration mesh c turns s id).after.state }
+        → ComprehensionFits c → StateFits mesh c.environment s → id < count mesh c.over → is_some (iteration_end mesh c turns s id) ≡ true }
+    ensures fits { (mesh : MeshLists) (c : Comprehension) (turns : ℕ) (s : State) (id : ℕ) → StateFits mesh c.environment s
+        → StateFits mesh c.environment (iteration mesh c turns s id).after.state }
 {}

@@ -1,3 +1,3 @@
-pub mod Expected
-pub mod Steps
-pub mod Simples
+pub mod OutcomeLemmas
+pub mod StepLemmas
+pub mod SimpleLemmas

@@ -19,13 +19,22 @@ abbrev pub IsLost : Files → Tally → Tally → List ℕ → Type 0
 IsLost files before now name =
     (file files name ≡ None) ⊎ (Rose before.others now.others × (now.last ≡ Some name))
 
+-- What a shelf and a sink show at entry or at return: the faults of the shelf by kind and in all, and the bytes that the
+-- sink took.
+pub record Outside : Type 0 where
+  pub tally : Tally
+  pub faults : ℕ
+  pub output : Option (List ℕ)
+
+abbrev pub outside : Tally → ℕ → Option (List ℕ) → Outside
+outside tally faults output = record { tally = tally; faults = faults; output = output }
+
 -- The words and the files result in the ending, and the sink took the whole of its text.
-abbrev pub EndsWith : List (List ℕ) → Files → Tally → Tally
-    → Option (List ℕ) → Option (List ℕ) → Ended → Type 0
-EndsWith words files before now old new ended =
+abbrev pub EndsWith : List (List ℕ) → Files → Outside → Outside → Ended → Type 0
+EndsWith words files before now ended =
     (text : List ℕ)
-    × ResultsIn (IsLost files before now) words files (record { ended = ended; text = text })
-    × (new ≡ append_known old text)
+    × ResultsIn (IsLost files before.tally now.tally) words files (record { ended = ended; text = text })
+    × (now.output ≡ append_known before.output text)
 
 -- The shelf's count at an ending: it rose for a ReadFault only.
 abbrev pub HasShelfCause : ℕ → ℕ → Ended → Type 0
@@ -35,15 +44,14 @@ HasShelfCause shelf shelf' ended = shelf' ≡ shelf
 -- What an answer says where the shelf exposes its files. NoMemory is free, and its line was taken. After a WriteFault
 -- the sink took a prefix of the text that was being written. Every other ending is the one in which the words and the
 -- files result, and the sink took its text.
-abbrev pub Answers : List (List ℕ) → Files → Tally → Tally → ℕ → ℕ
-    → Option (List ℕ) → Option (List ℕ) → Ended → Type 0
-Answers words files before now shelf shelf' old new NoMemory = new ≡ append_known old (ending_text NoMemory)
-Answers words files before now shelf shelf' old new WriteFault =
+abbrev pub Answers : List (List ℕ) → Files → Outside → Outside → Ended → Type 0
+Answers words files before now NoMemory = now.output ≡ append_known before.output (ending_text NoMemory)
+Answers words files before now WriteFault =
     (outcome : Outcome)
-    × (ResultsIn (IsLost files before now) words files outcome ⊎ (outcome ≡ refusal NoMemory))
-    × TakesPrefix old new outcome.text
-    × HasShelfCause shelf shelf' outcome.ended
-Answers words files before now shelf shelf' old new ended = EndsWith words files before now old new ended
+    × (ResultsIn (IsLost files before.tally now.tally) words files outcome ⊎ (outcome ≡ refusal NoMemory))
+    × TakesPrefix before.output now.output outcome.text
+    × HasShelfCause before.faults now.faults outcome.ended
+Answers words files before now ended = EndsWith words files before now ended
 
 -- A text that the words can result in, over any files.
 abbrev pub IsTextOf : List (List ℕ) → List ℕ → Type 0

@@ -16,10 +16,8 @@ pub fn write_refusal<S: Sink>(out: &mut S, ended: &Ended) -> Result<(), WriteFau
     ensures writes { Writes (ending_text ended.now) (S.output out.old) (S.output out.new) result }
     ensures flushed { OnOk result (S.is_flushed out.new ≡ true) }
 {
-    match write_ending(out, ended) {
-        Ok(()) => flush(out),
-        Err(fault) => Err(fault),
-    }
+    write_ending(out, ended)?;
+    flush(out)
 }
 
 /// Writes the lines of a job, one for each cell, and flushes.
@@ -28,16 +26,14 @@ pub fn write_job<S: Sink>(out: &mut S, job: &Job) -> Result<(), WriteFault>
     ensures writes { Writes (job_text job.now) (S.output out.old) (S.output out.new) result }
     ensures flushed { OnOk result (S.is_flushed out.new ≡ true) }
 {
-    match write_values(out, job.name.as_slice(), job.value, job.mesh.cells().len()) {
-        Ok(()) => flush(out),
-        Err(fault) => Err(fault),
-    }
+    write_values(out, job.name.as_slice(), job.value, job.mesh.cells().len())?;
+    flush(out)
 }
 
 /// Flushes the sink.
 fn flush<S: Sink>(out: &mut S) -> Result<(), WriteFault>
     ensures cause { HasCause (S.faults out.old) (S.faults out.new) result }
-    ensures taken { S.output out.new ≡ S.output out.old }
+    ensures unchanged { S.output out.new ≡ S.output out.old }
     ensures flushed { OnOk result (S.is_flushed out.new ≡ true) }
 {
     match out.flush() {

@@ -31,7 +31,8 @@ pub fn prepare<F: Shelf>(alloc: Global, words: &WordList, shelf: &mut F) -> Resu
     ensures cause { HasStepCause (F.faults shelf.old) (F.faults shelf.new) result }
     ensures usage { command_of words.now ≡ None → (result ≡ Err Usage) × (shelf.new ≡ shelf.old) }
     ensures only { result ≡ Err Usage → command_of words.now ≡ None }
-    ensures job { IfOk result (λ job. (simple : Simple) × (mesh : MeshLists) × (job_text job ≡ done_text simple mesh)) }
+    ensures job { IfOk result (λ job. (simple : Simple) × (mesh : MeshLists)
+        × (job_text job ≡ done_text simple mesh)) }
     ensures answers { (files : Files) → F.contents shelf.old ≡ Some files
         → Prepares words.now files (F.tally shelf.old) (F.tally shelf.new) result }
 {
@@ -66,7 +67,8 @@ fn read_program_file<F: Shelf>(alloc: Global, shelf: &mut F, name: &str) -> Resu
     ensures cause { HasStepCause (F.faults shelf.old) (F.faults shelf.new) result }
     ensures not_usage { result ≡ Err Usage → ⊥ }
     ensures answers { (files : Files) → F.contents shelf.old ≡ Some files
-        → StepGives files TheProgram name.now ProgramResult (F.tally shelf.old) (F.tally shelf.new) (as_tree result) }
+        → StepGives files TheProgram name.now ProgramResult (F.tally shelf.old) (F.tally shelf.new)
+        (as_tree result) }
 {
     let bytes = read_bytes(alloc, shelf, name, Input::Program)?;
     Ok(read_program(alloc, bytes.as_slice())?)
@@ -106,7 +108,8 @@ fn read_ele_file<F: Shelf>(
     ensures cause { HasStepCause (F.faults shelf.old) (F.faults shelf.new) result }
     ensures not_usage { result ≡ Err Usage → ⊥ }
     ensures answers { (files : Files) → F.contents shelf.old ≡ Some files
-        → StepGives files Ele name.now (EleResult points) (F.tally shelf.old) (F.tally shelf.new) result }
+        → StepGives files Ele name.now (EleResult points) (F.tally shelf.old) (F.tally shelf.new)
+        result }
 {
     let rows = read_rows(alloc, shelf, name, Input::Ele)?;
     Ok(read_cells(alloc, &rows, points)?)

@@ -6,10 +6,12 @@ ghost use Rattle.liszt.specs.Expected.{Outcome, Expected};
 
 /// Words and files have at most one outcome.
 pub fn one_outcome()
-    ensures { (words : List (List ℕ)) (files : Files) (a b : Outcome) → Expected words files a → Expected words files b → a ≡ b }
+    ensures { (words : List (List ℕ)) (files : Files) (a b : Outcome) → Expected words files a
+        → Expected words files b → a ≡ b }
 {}
 
 /// Words and files have an outcome.
 pub fn some_outcome()
-    ensures { (words : List (List ℕ)) (files : Files) → (outcome : Outcome) × Expected words files outcome }
+    ensures { (words : List (List ℕ)) (files : Files) → (outcome : Outcome)
+        × Expected words files outcome }
 {}

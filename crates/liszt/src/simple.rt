@@ -23,7 +23,8 @@ pub struct Simple<'a> {
 
 /// The simple program that a program is, up to places, if it is one.
 pub fn simple_of(program: &Program) -> Option<Simple<'_>>
-    ensures { option_map (λ s. record { name = s.name.now; first = s.first; added = s.added }) result ≡ simple_at (program_tree program.now) }
+    ensures { option_map (λ s. record { name = s.name.now; first = s.first; added = s.added }) result
+        ≡ simple_at (program_tree program.now) }
 {
     let items = program.items.as_slice();
     if items.len() != 2 {
@@ -108,7 +109,8 @@ fn loop_addition(item: &Item) -> Option<(&Name, i64)>
 
 /// The addition of a body that is one statement.
 fn body_addition(body: &StmtList) -> Option<(&Name, i64)>
-    ensures { option_map (λ x. (x.0.now, x.1)) result ≡ body_addition (body_of (map statement_tree body.now)) }
+    ensures { option_map (λ x. (x.0.now, x.1)) result
+        ≡ body_addition (body_of (map statement_tree body.now)) }
 {
     let statements = body.as_slice();
     if statements.len() == 1 {
@@ -120,7 +122,8 @@ fn body_addition(body: &StmtList) -> Option<(&Name, i64)>
 
 /// The field to which a statement adds a number at `c`, and that number.
 fn statement_addition(statement: &Stmt) -> Option<(&Name, i64)>
-    ensures { option_map (λ x. (x.0.now, x.1)) result ≡ statement_addition (statement_tree statement.now) }
+    ensures { option_map (λ x. (x.0.now, x.1)) result
+        ≡ statement_addition (statement_tree statement.now) }
 {
     match statement {
         Stmt::Assign {

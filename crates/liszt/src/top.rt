@@ -4,7 +4,7 @@ ghost use Rattle.liszt_io.specs.Shelves.{Files};
 ghost use Rattle.liszt_report.specs.declared.ended.Ended.TheVariants.{Usage, WriteFault as NotWritten};
 ghost use Rattle.command_words.specs.Commands.{command_of};
 ghost use Rattle.liszt.specs.Expected.{Outcome, Expected};
-ghost use Rattle.liszt.specs.Answers.{Answers, Wrote, HasCauses, IsOutcome, ended_of};
+ghost use Rattle.liszt.specs.Answers.{outside, Answers, Wrote, HasCauses, IsOutcome, ended_of};
 
 use crate::finish::{ended_by, write_job, write_refusal};
 use crate::inputs::prepare;
@@ -33,8 +33,9 @@ pub fn run_words<R: Threads + Wait + Sync, F: Shelf, S: Sink, G: Gate + Sync>(
     gate: &G,
 ) -> Ended
     ensures answers { (files : Files) → F.contents shelf.old ≡ Some files
-        → Answers words.now files (F.tally shelf.old) (F.tally shelf.new)
-        (F.faults shelf.old) (F.faults shelf.new) (S.output out.old) (S.output out.new) result }
+        → Answers words.now files
+        (outside (F.tally shelf.old) (F.faults shelf.old) (S.output out.old))
+        (outside (F.tally shelf.new) (F.faults shelf.new) (S.output out.new)) result }
     ensures wrote { Wrote words.now (S.output out.old) (S.output out.new) result }
     ensures flushed { (result ≡ NotWritten → ⊥) → S.is_flushed out.new ≡ true }
     ensures complete { (files : Files) (outcome : Outcome) → F.contents shelf.old ≡ Some files
@@ -71,8 +72,9 @@ pub fn run_returning<R: Threads + Sync, F: Shelf, S: Sink, G: Gate + Sync>(
     _gate: &G,
 ) -> Step
     ensures answers { (files : Files) → F.contents shelf.old ≡ Some files
-        → Answers words.now files (F.tally shelf.old) (F.tally shelf.new)
-        (F.faults shelf.old) (F.faults shelf.new) (S.output out.old) (S.output out.new) (ended_of result) }
+        → Answers words.now files
+        (outside (F.tally shelf.old) (F.faults shelf.old) (S.output out.old))
+        (outside (F.tally shelf.new) (F.faults shelf.new) (S.output out.new)) (ended_of result) }
     ensures wrote { Wrote words.now (S.output out.old) (S.output out.new) (ended_of result) }
     ensures flushed { (ended_of result ≡ NotWritten → ⊥) → S.is_flushed out.new ≡ true }
     ensures complete { (files : Files) (outcome : Outcome) → F.contents shelf.old ≡ Some files
@@ -93,8 +95,9 @@ pub fn run_returning<R: Threads + Sync, F: Shelf, S: Sink, G: Gate + Sync>(
 /// Reads the inputs that the words name, and then writes the text of the ending.
 fn run<F: Shelf, S: Sink>(alloc: Global, words: &WordList, shelf: &mut F, out: &mut S) -> Ended
     ensures answers { (files : Files) → F.contents shelf.old ≡ Some files
-        → Answers words.now files (F.tally shelf.old) (F.tally shelf.new)
-        (F.faults shelf.old) (F.faults shelf.new) (S.output out.old) (S.output out.new) result }
+        → Answers words.now files
+        (outside (F.tally shelf.old) (F.faults shelf.old) (S.output out.old))
+        (outside (F.tally shelf.new) (F.faults shelf.new) (S.output out.new)) result }
     ensures wrote { Wrote words.now (S.output out.old) (S.output out.new) result }
     ensures flushed { (result ≡ NotWritten → ⊥) → S.is_flushed out.new ≡ true }
     ensures causes { HasCauses (F.faults shelf.old) (F.faults shelf.new)

@@ -1,4 +1,4 @@
--- Lists that are kept one behind the other: one more at the end, and the one at a place.
+-- Consecutive lists in one buffer: one more at the end, and the one at an index.
 use Rattle.std.proofs.Common.{◌≡◌, ℕ, zero, suc, ◌-◌, ◌<◌, ◌≤◌, Some, List, [], ◌∷◌, ◌++◌, take, drop, length, get_or, refl, sym, ap, subst, ◌∙◌, arith}
 use Rattle.std.specs.List.{slice_get}
 use Rattle.std.proofs.lemmas.List.{length-append, length-drop, take-append-le, drop-append-le, take_rest}
@@ -11,12 +11,12 @@ pub ends_rise : (start total : ℕ) (ends : List ℕ) → AreEnds start ends tot
 ends_rise start total [] h = omega (arith, h)
 ends_rise start total (end ∷ ends) h = let more = ends_rise end total ends h.1 in omega (arith, h.0)
 
--- there are as many lists as places
+-- the number of lists is the number of ends
 pub cut_length : {A : Type 0} (start : ℕ) (items : List A) (ends : List ℕ) → length (cut start items ends) ≡ length ends
 cut_length start items [] = refl
 cut_length start items (end ∷ ends) = ap suc (cut_length end items ends)
 
--- the pieces in front don't see what is added behind
+-- items appended change no earlier piece
 piece_kept : {A : Type 0} (start end : ℕ) (items more : List A) → start ≤ end → end ≤ length items
     → take (end - start) (drop start (items ++ more)) ≡ take (end - start) (drop start items)
 piece_kept start end items more le fits =
@@ -31,7 +31,7 @@ cut_kept start total items more (end ∷ ends) h fits =
     let rise = ends_rise end total ends h.1 in
     cc (piece_kept start end items more h.0 (omega arith), cut_kept end total items more ends h.1 fits)
 
--- what was left behind the last place is one list more
+-- the items after the last end are one list more
 pub cut_close : {A : Type 0} (start total : ℕ) (items : List A) (ends : List ℕ) → AreEnds start ends total → total ≤ length items
     → cut start items (ends ++ length items ∷ []) ≡ cut start items ends ++ drop total items ∷ []
 cut_close start total items [] h le =

@@ -74,7 +74,7 @@ or_assoc a b c = same_from_bits _ _ by_bit where
   by_bit : (i : ℕ) → bit_at (bit_or (bit_or a b) c) i ≡ bit_at (bit_or a (bit_or b c)) i
   by_bit i = rw (bit_at_or (bit_or a b) c i, bit_at_or a b i, bit_at_or a (bit_or b c) i, bit_at_or b c i) (omega arith)
 
--- what stood as a word inside another operator
+-- a word inside another operator
 inside : (f : ℕ → ℕ → ℕ) (m n : ℕ) → m < 2 ^ 64 → value (f (word (value m)) n) ≡ value (f m n)
 inside f m n h = ap (λ w. value (f w n)) (word_value m h)
 

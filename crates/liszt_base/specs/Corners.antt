@@ -24,8 +24,8 @@ induced_cycles (a ∷ b ∷ c ∷ d ∷ []) = (b ∷ c ∷ d ∷ []) ∷ (a ∷ 
 induced_cycles _ = []
 
 -- the four corners are those of an earlier cell
-abbrev pub comes_again : List (List ℕ) → List ℕ → Bool
-comes_again earlier corners = list_any (same_members corners) earlier
+abbrev pub repeats_earlier : List (List ℕ) → List ℕ → Bool
+repeats_earlier earlier corners = list_any (same_members corners) earlier
 
 -- some face of the cell is a face of two earlier cells or more
 abbrev pub is_third : List (List ℕ) → List ℕ → Bool
@@ -38,9 +38,9 @@ along test earlier (x ∷ xs) = test earlier x ∷ along test (earlier ++ x ∷ 
 
 -- no cell comes twice, and no face is shared by three cells
 abbrev pub FitTogether : List (List ℕ) → Type 0
-FitTogether cells = (list_any (λ b. b) (along comes_again [] cells) ≡ false) × (list_any (λ b. b) (along is_third [] cells) ≡ false)
+FitTogether cells = (list_any (λ b. b) (along repeats_earlier [] cells) ≡ false) × (list_any (λ b. b) (along is_third [] cells) ≡ false)
 
--- the four corners of a cell are four of so many points
+-- the four corners of a cell are four different points
 abbrev pub IsCell : ℕ → List ℕ → Type 0
 IsCell points corners = (length corners ≡ 4) × (are_different corners ≡ true) × (list_all (λ v. nat_lt v points) corners ≡ true)
 

@@ -1,4 +1,4 @@
--- What a list of lists that are kept one behind the other means. This project's own.
+-- The meaning of consecutive lists in one buffer. This project's own.
 use Rattle.std.specs.Prelude.{◌≡◌, ℕ, zero, suc, ◌-◌, ◌≤◌, List, [], ◌∷◌, take, drop, slice_index}
 
 -- the pieces of a list that end at these places, the first of them from the place start on

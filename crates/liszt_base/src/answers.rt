@@ -19,7 +19,7 @@ impl<T: Drop> From<AllocFailed<T>> for NoMemory {
     }
 }
 
-/// Why a call that takes memory gave no value: a fault of what it was given, or want of memory.
+/// Why a call that takes memory gave no value: a fault of its input, or out of memory.
 #[derive(Debug, Drop)]
 pub enum Refused<F> {
     Fault(F),

@@ -7,10 +7,13 @@ ghost use Rattle.liszt_base.specs.Reductions.{fold, identity_of, word, value};
 
 /// Sums and products that wrap around.
 fn wraps()
-    ensures past_most { fold Add (pos 9223372036854775807) (pos 1) ≡ neg_ℤ (pos 9223372036854775808) }
-    ensures past_least { fold Add (neg_ℤ (pos 9223372036854775808)) (neg_ℤ (pos 1)) ≡ pos 9223372036854775807 }
+    ensures past_most { fold Add (pos 9223372036854775807) (pos 1)
+        ≡ neg_ℤ (pos 9223372036854775808) }
+    ensures past_least { fold Add (neg_ℤ (pos 9223372036854775808)) (neg_ℤ (pos 1))
+        ≡ pos 9223372036854775807 }
     ensures sum { fold Add (neg_ℤ (pos 7)) (pos 5) ≡ neg_ℤ (pos 2) }
-    ensures least_negated { fold Mul (neg_ℤ (pos 9223372036854775808)) (neg_ℤ (pos 1)) ≡ neg_ℤ (pos 9223372036854775808) }
+    ensures least_negated { fold Mul (neg_ℤ (pos 9223372036854775808)) (neg_ℤ (pos 1))
+        ≡ neg_ℤ (pos 9223372036854775808) }
     ensures product_gone { fold Mul (pos 4294967296) (pos 4294967296) ≡ pos 0 }
     ensures product { fold Mul (neg_ℤ (pos 7)) (pos 5) ≡ neg_ℤ (pos 35) }
 {}
@@ -20,7 +23,8 @@ fn bits()
     ensures and { fold And (neg_ℤ (pos 6)) (pos 12) ≡ pos 8 }
     ensures or { fold Or (neg_ℤ (pos 6)) (pos 1) ≡ neg_ℤ (pos 5) }
     ensures xor { fold Xor (neg_ℤ (pos 6)) (neg_ℤ (pos 1)) ≡ pos 5 }
-    ensures xor_sign { fold Xor (neg_ℤ (pos 9223372036854775808)) (pos 3) ≡ neg_ℤ (pos 9223372036854775805) }
+    ensures xor_sign { fold Xor (neg_ℤ (pos 9223372036854775808)) (pos 3)
+        ≡ neg_ℤ (pos 9223372036854775805) }
 {}
 
 /// The lesser and the greater.

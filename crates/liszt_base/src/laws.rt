@@ -10,8 +10,7 @@ use crate::limits::{
     TURN_LIMIT,
 };
 
-/// The order in which numbers are put together, and what is put together first, make no difference; the identity adds nothing; and
-/// numbers in range stay in range.
+/// Each reduction is commutative and associative, has its identity, and keeps numbers in range.
 pub fn reductions()
     ensures commutes { (op : Op) (a b : ℤ) → fold op a b ≡ fold op b a }
     ensures associates { (op : Op) (a b c : ℤ) → fold op (fold op a b) c ≡ fold op a (fold op b c) }

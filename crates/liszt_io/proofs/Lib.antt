@@ -1,2 +1,2 @@
-pub mod Held
-pub mod Pieces
+pub mod FileLemmas
+pub mod PieceLemmas

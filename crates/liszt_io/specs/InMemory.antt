@@ -8,7 +8,7 @@ use Rattle.liszt_io.specs.declared.script.Script.{Script}
 use Rattle.liszt_io.specs.declared.outside.Failed.{Failed}
 use Rattle.liszt_io.specs.Causes.{one_more}
 use Rattle.liszt_io.specs.Shelves.{Files, file, Cursor, Tally}
-use Rattle.liszt_io.specs.Held.{files_of, name_at, bytes_at}
+use Rattle.liszt_io.specs.FileLists.{files_of, name_at, bytes_at}
 use Rattle.liszt_io.specs.Scripts.{fails_next, IsCallLater}
 
 abbrev pub first_script : ℕ → List ℕ → Script

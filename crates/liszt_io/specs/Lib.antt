@@ -3,6 +3,6 @@ pub mod Shelves
 pub mod Sinks
 pub mod Whole
 pub mod Scripts
-pub mod Held
+pub mod FileLists
 pub mod InMemory
 pub mod Hosts

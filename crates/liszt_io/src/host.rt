@@ -183,7 +183,8 @@ impl<W: Write + Drop> Sink for HostSink<W> {
         ensures cause { HasCause self.old.faults self.new.faults result }
         ensures takes { Takes None None piece.now result }
         ensures flushed { self.new.is_flushed ≡ flushed_by_write self.old.is_flushed result }
-        ensures bytes { WriteAppends (W.contents self.old.inner) (W.contents self.new.inner) result piece.now }
+        ensures bytes { WriteAppends (W.contents self.old.inner) (W.contents self.new.inner) result
+            piece.now }
     {
         if piece.is_empty() {
             return Ok(0);

@@ -1,7 +1,7 @@
 ghost use Rattle.std.specs.Prelude.{◌≡◌, ◌+◌, ◌-◌, ◌<◌, ◌≤◌, ℕ, min, map, length, List, IfSome, IfNone, Some, None};
 ghost use Rattle.std.specs.Option.{option_map, ForSome};
 ghost use Rattle.liszt_io.specs.Shelves.{file, IsPiece};
-ghost use Rattle.liszt_io.specs.Held.{files_of, name_at, IsFileAt, IsOpenAt};
+ghost use Rattle.liszt_io.specs.FileLists.{files_of, name_at, IsFileAt, IsOpenAt};
 
 use crate::held_file::{CallList, FileList, HeldFile};
 use crate::outside::{Failed, Shelf};
@@ -98,9 +98,11 @@ impl Shelf for MemoryShelf {
 
     fn open_name(&mut self, name: &str) -> Result<(), Failed>
         ensures contents { Some (contents_of self.new) ≡ Some (contents_of self.old) }
-        ensures cause { HasCause (all_faults (tally_of self.old)) (all_faults (tally_of self.new)) result }
+        ensures cause { HasCause (all_faults (tally_of self.old)) (all_faults (tally_of self.new))
+            result }
         ensures opens { (files : Files) → Some (contents_of self.old) ≡ Some files
-            → Opens files name.now result (cursor_of self.new) (tally_of self.old) (tally_of self.new) }
+            → Opens files name.now result (cursor_of self.new) (tally_of self.old)
+            (tally_of self.new) }
         ensures exact { is_ok result ≡ opens_next self.old name.now }
         ensures counts { tally_of self.new ≡ tally_after_open self.old name.now result }
         ensures later { IsShelfLater self.old self.new }
@@ -122,13 +124,18 @@ impl Shelf for MemoryShelf {
 
     fn read(&mut self, buf: &mut [u8]) -> Result<usize, Failed>
         ensures contents { Some (contents_of self.new) ≡ Some (contents_of self.old) }
-        ensures cause { HasCause (all_faults (tally_of self.old)) (all_faults (tally_of self.new)) result }
+        ensures cause { HasCause (all_faults (tally_of self.old)) (all_faults (tally_of self.new))
+            result }
         ensures count { IfOk result (λ count. count ≤ length buf.new) }
-        ensures reads { (files : Files) (name bytes : List ℕ) (place : ℕ) → Some (contents_of self.old) ≡ Some files
+        ensures reads { (files : Files) (name bytes : List ℕ) (place : ℕ)
+            → Some (contents_of self.old) ≡ Some files
             → cursor_of self.old ≡ Some (name, place) → file files name ≡ Some bytes
-            → Reads name bytes place result buf.new (cursor_of self.new) (tally_of self.old) (tally_of self.new) }
-        ensures no_cursor { (files : Files) → Some (contents_of self.old) ≡ Some files → cursor_of self.old ≡ None
-            → ReadsWithoutCursor result (cursor_of self.new) (tally_of self.old) (tally_of self.new) }
+            → Reads name bytes place result buf.new (cursor_of self.new) (tally_of self.old)
+            (tally_of self.new) }
+        ensures no_cursor { (files : Files) → Some (contents_of self.old) ≡ Some files
+            → cursor_of self.old ≡ None
+            → ReadsWithoutCursor result (cursor_of self.new) (tally_of self.old)
+            (tally_of self.new) }
         ensures exact { is_ok result ≡ reads_next self.old (length buf.old) }
         ensures counts { tally_of self.new ≡ tally_after_read self.old result }
         ensures gives { IfOk result (GivesNext self.old (length buf.old)) }

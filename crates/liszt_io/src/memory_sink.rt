@@ -71,7 +71,8 @@ impl Sink for MemorySink {
 
     fn write(&mut self, piece: &[u8]) -> Result<usize, Failed>
         ensures cause { HasCause self.old.faults self.new.faults result }
-        ensures takes { Takes (Some (output_of self.old)) (Some (output_of self.new)) piece.now result }
+        ensures takes { Takes (Some (output_of self.old)) (Some (output_of self.new)) piece.now
+            result }
         ensures flushed { self.new.is_flushed ≡ flushed_by_write self.old.is_flushed result }
         ensures exact { is_ok result ≡ writes_next self.old piece.now }
         ensures counts { self.new.faults ≡ faults_after self.old.faults result }

@@ -53,14 +53,18 @@ pub trait Shelf {
         ensures contents { contents self.new ≡ contents self.old }
         ensures cause { HasCause (faults self.old) (faults self.new) result }
         ensures count { IfOk result (λ count. count ≤ length buf.new) }
-        ensures reads { (files : Files) (name bytes : List ℕ) (place : ℕ) → contents self.old ≡ Some files
+        ensures reads { (files : Files) (name bytes : List ℕ) (place : ℕ)
+            → contents self.old ≡ Some files
             → cursor self.old ≡ Some (name, place) → file files name ≡ Some bytes
-            → Reads name bytes place result buf.new (cursor self.new) (tally self.old) (tally self.new) }
-        ensures no_cursor { (files : Files) → contents self.old ≡ Some files → cursor self.old ≡ None
+            → Reads name bytes place result buf.new (cursor self.new) (tally self.old)
+            (tally self.new) }
+        ensures no_cursor { (files : Files) → contents self.old ≡ Some files
+            → cursor self.old ≡ None
             → ReadsWithoutCursor result (cursor self.new) (tally self.old) (tally self.new) };
 
     /// The count of faults is that of both kinds together, where the shelf exposes its files.
-    ghost total: { (s : Self) (files : Files) → contents s ≡ Some files → faults s ≡ all_faults (tally s) };
+    ghost total: { (s : Self) (files : Files) → contents s ≡ Some files
+        → faults s ≡ all_faults (tally s) };
 }
 
 /// A place that takes bytes.

@@ -7,6 +7,7 @@ use Rattle.std.specs.Option.{option_or, option_map}
 use Rattle.std.specs.Result.{result_map_both}
 use Rattle.std.specs.Str.{bytes_eq}
 use Rattle.std.specs.Str.Parse.{digits_value}
+use Rattle.liszt_base.specs.Limits.{name_limit, token_limit}
 use Rattle.liszt_base.specs.declared.answers.Place.{Place}
 use Rattle.liszt_base.specs.declared.answers.ProgramFault.{ProgramFault}
 use Rattle.liszt_base.specs.declared.answers.ProgramWhat.{ProgramWhat}
@@ -31,13 +32,13 @@ is_blank b = (b == 32) || (b == 9) || (b == 13) || (b == 10)
 abbrev pub is_letter : ℕ → Bool
 is_letter b = (nat_le 65 b && nat_le b 90) || (nat_le 97 b && nat_le b 122) || (b == 95)
 
--- a blank; a comment, from `//` on and without LF
+-- A blank; a comment: `//` and bytes other than LF.
 abbrev pub gap : List ℕ → Option Piece
 gap (b ∷ []) = if is_blank b then Some Gap else None
 gap (b ∷ c ∷ bytes) = if (b == 47) && (c == 47) && not (list_any is_line_feed bytes) then Some Gap else None
 gap [] = None
 
--- `min=` and `max=`; a reserved word; a symbol
+-- `min=` and `max=`; a reserved word; a symbol.
 abbrev pub set_token : List ℕ → Option Piece
 set_token bytes = if bytes_eq bytes (codes "min=") then Some (Token MinSet) else if bytes_eq bytes (codes "max=") then Some (Token MaxSet) else None
 
@@ -47,8 +48,8 @@ word_token bytes = option_map (λ place. Token (Word place)) (position (bytes_eq
 abbrev pub symbol_token : List ℕ → Option Piece
 symbol_token bytes = option_map (λ place. Token (Symbol place)) (position (bytes_eq bytes) symbols)
 
--- digits of a value up to 2^63 - 1, more are a fault; a letter or `_` and then letters, digits and `_`, at most 64 bytes,
--- a longer one is a fault
+-- A number is digits of a value up to 2^63 - 1; a greater value is a fault. A name is a letter or `_` followed by letters,
+-- digits and `_`, at most 64 bytes; a longer one is a fault.
 abbrev pub number_token : List ℕ → Option Piece
 number_token bytes =
     if nat_lt 0 (length bytes) && list_all is_ascii_digit bytes
@@ -59,110 +60,110 @@ abbrev pub name_token : List ℕ → Option Piece
 name_token [] = None
 name_token (b ∷ bytes) =
     if is_letter b && list_all (λ c. is_letter c || is_ascii_digit c) bytes
-    then Some (if nat_lt (length bytes) 64 then Token Name else Fault LongName)
+    then Some (if nat_lt (length bytes) name_limit then Token Name else Fault LongName)
     else None
 
--- what the bytes are as one piece, if they are one
+-- The piece that the bytes are, if they are one piece.
 abbrev pub piece : List ℕ → Option Piece
 piece bytes =
     option_or (gap bytes) (option_or (set_token bytes) (option_or (word_token bytes)
     (option_or (symbol_token bytes) (option_or (number_token bytes) (name_token bytes)))))
 
--- THE LONGEST PIECE at the front of a text, as the number of its bytes; none where no piece begins there
+-- THE LONGEST PIECE at the start of a text, as the number of its bytes; none where no piece starts there.
 abbrev pub down_from : ℕ → List ℕ
 down_from zero = []
 down_from (suc n) = suc n ∷ down_from n
 
-abbrev pub longest : List ℕ → Option ℕ
-longest bytes = find (λ n. is_some (piece (take n bytes))) (down_from (length bytes))
+abbrev pub longest_size : List ℕ → Option ℕ
+longest_size bytes = find (λ n. is_some (piece (take n bytes))) (down_from (length bytes))
 
--- The pieces of a text: the longest at its front, or its first byte where none begins there, then the longest at the front of
--- what is left. The number says how many bytes still belong to the piece before.
-abbrev pub pieces_behind : ℕ → List ℕ → List (List ℕ)
-pieces_behind inside [] = []
-pieces_behind (suc inside) (b ∷ bytes) = pieces_behind inside bytes
-pieces_behind zero (b ∷ bytes) =
-    let size : ℕ = unwrap_or (longest (b ∷ bytes)) 1 in
-    take size (b ∷ bytes) ∷ pieces_behind (size - 1) bytes
+-- The pieces of a text: the longest piece at the start of the text, or its first byte where no piece starts there, and then the
+-- pieces of the rest. The number counts the bytes that still belong to the previous piece.
+abbrev pub pieces_after : ℕ → List ℕ → List (List ℕ)
+pieces_after inside [] = []
+pieces_after (suc inside) (b ∷ bytes) = pieces_after inside bytes
+pieces_after zero (b ∷ bytes) =
+    let size : ℕ = unwrap_or (longest_size (b ∷ bytes)) 1 in
+    take size (b ∷ bytes) ∷ pieces_after (size - 1) bytes
 
 abbrev pub pieces : List ℕ → List (List ℕ)
-pieces text = pieces_behind 0 text
+pieces text = pieces_after 0 text
 
--- PLACES: the place behind these bytes. Lines and the bytes of a line count from 1, and LF alone ends a line.
-abbrev pub place_behind : List ℕ → Place
-place_behind front = record { line = count_by is_line_feed front + 1; col = length (after_last is_line_feed front) + 1 }
+-- PLACES: the place after these bytes. Lines and the bytes of a line are counted from 1. Only LF ends a line.
+abbrev pub place_after : List ℕ → Place
+place_after front = record { line = count_by is_line_feed front + 1; col = length (after_last is_line_feed front) + 1 }
 
--- TOKENS. What each piece is that is no gap: a token, or a fault. A byte at which no piece begins is BadByte.
-abbrev pub fault_behind : List ℕ → ProgramWhat → ProgramFault
-fault_behind front what = record { what = what; place = place_behind front; first = None }
+-- TOKENS. Each piece other than a gap is a token or a fault. A byte at which no piece starts is BadByte.
+abbrev pub fault_after : List ℕ → ProgramWhat → ProgramFault
+fault_after front what = record { what = what; place = place_after front; first = None }
 
-abbrev pub token_behind : List ℕ → List ℕ → TokenKind → TokenOf
-token_behind front bytes kind =
-    record { kind = kind; place = place_behind front; start = length front; end = length front + length bytes }
+abbrev pub token_after : List ℕ → List ℕ → TokenKind → TokenOf
+token_after front bytes kind =
+    record { kind = kind; place = place_after front; start = length front; end = length front + length bytes }
 
 abbrev pub Finding : Type 0
 Finding = Result TokenOf ProgramFault
 
 abbrev pub finding : List ℕ → List ℕ → Option Piece → Option Finding
-finding front bytes None = Some (Err (fault_behind front BadByte))
+finding front bytes None = Some (Err (fault_after front BadByte))
 finding front bytes (Some Gap) = None
-finding front bytes (Some (Token kind)) = Some (Ok (token_behind front bytes kind))
-finding front bytes (Some (Fault what)) = Some (Err (fault_behind front what))
+finding front bytes (Some (Token kind)) = Some (Ok (token_after front bytes kind))
+finding front bytes (Some (Fault what)) = Some (Err (fault_after front what))
 
-abbrev pub findings_behind : List ℕ → List (List ℕ) → List Finding
-findings_behind front [] = []
-findings_behind front (bytes ∷ more) = cons_option (finding front bytes (piece bytes)) (findings_behind (front ++ bytes) more)
+abbrev pub findings_after : List ℕ → List (List ℕ) → List Finding
+findings_after front [] = []
+findings_after front (bytes ∷ more) = cons_option (finding front bytes (piece bytes)) (findings_after (front ++ bytes) more)
 
--- a token past the 131,072nd is Big, at its place
-abbrev pub counted_at : ℕ → Finding → Finding
-counted_at number (Ok token) = if nat_lt number (2 ^ 17) then Ok token else Err (record { what = Big; place = token.place; first = None })
-counted_at number (Err fault) = Err fault
+-- A token past the limit is Big, at its place.
+abbrev pub with_limit_at : ℕ → Finding → Finding
+with_limit_at number (Ok token) = if nat_lt number token_limit then Ok token else Err (record { what = Big; place = token.place; first = None })
+with_limit_at number (Err fault) = Err fault
 
-abbrev pub counted : ℕ × Finding → Finding
-counted numbered = counted_at numbered.0 numbered.1
+abbrev pub with_limit : ℕ × Finding → Finding
+with_limit numbered = with_limit_at numbered.0 numbered.1
 
--- the tokens, or the first fault among them
-abbrev pub onto : TokenOf → Result (List TokenOf) ProgramFault → Result (List TokenOf) ProgramFault
-onto token (Ok tokens) = Ok (token ∷ tokens)
-onto token (Err fault) = Err fault
+-- The tokens, or the first fault among them.
+abbrev pub prepend : TokenOf → Result (List TokenOf) ProgramFault → Result (List TokenOf) ProgramFault
+prepend token (Ok tokens) = Ok (token ∷ tokens)
+prepend token (Err fault) = Err fault
 
-abbrev pub all_or_first : List Finding → Result (List TokenOf) ProgramFault
-all_or_first [] = Ok []
-all_or_first (Ok token ∷ more) = onto token (all_or_first more)
-all_or_first (Err fault ∷ more) = Err fault
+abbrev pub tokens_or_first_fault : List Finding → Result (List TokenOf) ProgramFault
+tokens_or_first_fault [] = Ok []
+tokens_or_first_fault (Ok token ∷ more) = prepend token (tokens_or_first_fault more)
+tokens_or_first_fault (Err fault ∷ more) = Err fault
 
 abbrev pub tokens_of : List ℕ → Result (List TokenOf) ProgramFault
-tokens_of text = all_or_first (map counted (enumerate_from 0 (findings_behind [] (pieces text))))
+tokens_of text = tokens_or_first_fault (map with_limit (enumerate_from 0 (findings_after [] (pieces text))))
 
--- the place of the end of a text
+-- The place of the end of a text.
 abbrev pub end_of : List ℕ → Place
-end_of text = place_behind text
+end_of text = place_after text
 
--- the kinds of the tokens alone
+-- The kinds of the tokens.
 abbrev pub kinds_of : List ℕ → Result (List TokenKind) ProgramFault
 kinds_of text = result_map_both (map (λ token. token.kind)) (λ fault. fault) (tokens_of text)
 
--- What the laws speak of: one place comes before another, a token lies before another, and a token's bytes spell it.
+-- LAWS speak of a place before another one, a token before another one, and the bytes that spell a token.
 abbrev pub IsBefore : Place → Place → Type 0
 IsBefore place other = (place.line < other.line) ⊎ ((place.line ≡ other.line) × (place.col < other.col))
 
 abbrev pub LiesBefore : TokenOf → TokenOf → Type 0
 LiesBefore token other = (token.end ≤ other.start) × IsBefore token.place other.place
 
--- the bytes of a token
+-- The bytes of a token.
 abbrev pub bytes_of : List ℕ → TokenOf → List ℕ
 bytes_of text token = take (token.end - token.start) (drop token.start text)
 
 abbrev pub IsSpelledIn : List ℕ → TokenOf → Type 0
 IsSpelledIn text token =
-    (token.start < token.end) × (token.end ≤ length text) × (token.place ≡ place_behind (take token.start text))
+    (token.start < token.end) × (token.end ≤ length text) × (token.place ≡ place_after (take token.start text))
     × (piece (bytes_of text token) ≡ Some (Token token.kind))
 
--- each piece has the size of the longest at the front of what is left, 1 where there is none
+-- Each piece has the size of the longest piece at the start of the remaining text, or 1 where no piece starts there.
 abbrev pub AreLongest : List ℕ → List (List ℕ) → Type 0
 AreLongest text [] = text ≡ []
 AreLongest text (bytes ∷ more) =
-    (length bytes ≡ unwrap_or (longest text) 1) × (bytes ≡ take (length bytes) text) × AreLongest (drop (length bytes) text) more
+    (length bytes ≡ unwrap_or (longest_size text) 1) × (bytes ≡ take (length bytes) text) × AreLongest (drop (length bytes) text) more
 
 abbrev pub is_no_gap : Option Piece → Bool
 is_no_gap (Some Gap) = false

@@ -1,6 +1,5 @@
 pub mod Cases
-pub mod Fronts
+pub mod Internal
 pub mod Lexed
 pub mod Lexer
-pub mod Rest
 pub mod Words

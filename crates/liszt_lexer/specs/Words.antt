@@ -1,5 +1,5 @@
--- The reserved words and the symbols of the language, each named by its place in its list. This project's own profile after
--- Liszt (DeVito et al., Supercomputing 2011).
+-- The reserved words and the symbols of the language, each identified by its index in its list. This project's own profile,
+-- after Liszt (DeVito et al., Supercomputing 2011).
 use Rattle.std.specs.Prelude.{ℕ, List, [], ◌∷◌, codes}
 
 abbrev pub reserved_words : List (List ℕ)

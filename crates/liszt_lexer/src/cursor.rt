@@ -1,10 +1,10 @@
-//! Where a text is read, and the place of that.
+//! The cursor of a text that is being read.
 ghost use Rattle.std.specs.Prelude.{◌≡◌, ◌+◌, ◌^◌, ◌<◌, ◌≤◌, length};
-ghost use Rattle.liszt_lexer.specs.Rest.{IsAt, place_past};
+ghost use Rattle.liszt_lexer.specs.Internal.Remaining.{IsAt, place_after_byte};
 
 use liszt_base::Place;
 
-/// How many bytes of a text have been read, and the place behind them.
+/// The number of bytes of a text that have been read, and the place after them.
 #[derive(Clone, Copy, Debug, PartialEq, Eq)]
 pub struct Cursor {
     pub passed: usize,
@@ -12,7 +12,7 @@ pub struct Cursor {
 }
 
 impl Cursor {
-    /// The beginning of any text.
+    /// The start of a text.
     pub fn new() -> Cursor
         ensures { result ≡ record { passed = 0; place = record { line = 1; col = 1 } } }
     {
@@ -22,7 +22,7 @@ impl Cursor {
         }
     }
 
-    /// Passes the next `size` bytes of the text.
+    /// Moves past the next `size` bytes of the text.
     pub fn pass(&mut self, text: &[u8], size: usize)
         requires at { IsAt text.now self.old }
         requires within { self.old.passed + size ≤ length text.now }
@@ -37,11 +37,11 @@ impl Cursor {
     }
 }
 
-/// The place past one byte more.
+/// The place after one more byte.
 fn past(place: Place, byte: u8) -> Place
     requires line { place.line + 1 < 2 ^ 32 }
     requires col { place.col + 1 < 2 ^ 32 }
-    ensures { result ≡ place_past place byte }
+    ensures { result ≡ place_after_byte place byte }
 {
     if byte == b'\n' {
         Place {

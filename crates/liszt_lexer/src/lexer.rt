@@ -1,20 +1,18 @@
-//! The tokens of a text, by the longest piece at each place.
+//! The tokens of a text, by the longest match.
 ghost use Rattle.std.specs.Prelude.{◌≡◌, ◌+◌, ◌^◌, ◌<◌, length};
-ghost use Rattle.liszt_lexer.specs.Fronts.{found_in};
-ghost use Rattle.liszt_lexer.specs.Lexed.{LexesTo};
-ghost use Rattle.liszt_lexer.specs.Rest.{finding_at, tokens_with, Takes};
+ghost use Rattle.liszt_lexer.specs.Internal.Leading.{piece_of};
+ghost use Rattle.liszt_base.specs.Gives.{Gives};
+ghost use Rattle.liszt_lexer.specs.Lexed.{lexed_text};
+ghost use Rattle.liszt_lexer.specs.Internal.Remaining.{finding_at, append_optional, Appends};
 
 use crate::cursor::Cursor;
-use crate::front::{Found, Front, longest_front};
+use crate::leading::{FoundPiece, LeadingPiece, leading_piece};
 use crate::token::Token;
-use liszt_base::{Place, PlainList, ProgramFault, ProgramWhat, Refused};
+use liszt_base::{Place, PlainList, ProgramFault, ProgramWhat, Refused, TOKEN_LIMIT};
 use std::alloc::Global;
 use std::marker::Model;
 
-/// A text may have up to this many tokens.
-const MOST_TOKENS: usize = 131_072;
-
-/// The tokens of a text, in their order, and the place of its end. Contracts see the two.
+/// The tokens of a text, in their order, and the place of the end of the text. Contracts see both.
 #[derive(Debug, Drop)]
 pub struct TokenList {
     tokens: PlainList<Token>,
@@ -37,7 +35,7 @@ impl TokenList {
         self.tokens.as_slice()
     }
 
-    /// The place of the text's end.
+    /// The place of the end of the text.
     pub fn end(&self) -> Place
         ensures { result ≡ self.now.end }
     {
@@ -48,13 +46,13 @@ impl TokenList {
 /// The tokens of a text, or its first fault in the order of its bytes.
 pub fn tokens(alloc: Global, text: &[u8]) -> Result<TokenList, Refused<ProgramFault>>
     requires { length text.now < 2 ^ 31 }
-    ensures { LexesTo text.now result }
+    ensures { Gives (lexed_text text.now) result }
 {
     let mut tokens = PlainList::new(alloc);
     let mut cursor = Cursor::new();
     while cursor.passed < text.len() {
-        let front = longest_front(&text[cursor.passed..]);
-        take_in(&mut tokens, cursor, front)?;
+        let front = leading_piece(&text[cursor.passed..]);
+        append_piece(&mut tokens, cursor, front)?;
         cursor.pass(text, front.size);
     }
     Ok(TokenList {
@@ -63,18 +61,19 @@ pub fn tokens(alloc: Global, text: &[u8]) -> Result<TokenList, Refused<ProgramFa
     })
 }
 
-/// Takes in what stands at the cursor: adds a token, or tells the fault.
-fn take_in(
+/// Appends the token of the piece at the cursor, if the piece is one; a piece that is a fault is returned as an error.
+fn append_piece(
     tokens: &mut PlainList<Token>,
     cursor: Cursor,
-    front: Front,
+    front: LeadingPiece,
 ) -> Result<(), Refused<ProgramFault>>
     requires { cursor.passed + front.size < 2 ^ 32 }
-    ensures { Takes (tokens_with tokens.old (finding_at cursor front.size (found_in front.found))) result tokens.new }
+    ensures { Appends (append_optional tokens.old (finding_at cursor front.size
+        (piece_of front.content))) result tokens.new }
 {
-    match front.found {
-        Found::Gap => Ok(()),
-        Found::Token(kind) => add(
+    match front.content {
+        FoundPiece::Gap => Ok(()),
+        FoundPiece::Token(kind) => append_token(
             tokens,
             Token {
                 kind,
@@ -83,12 +82,12 @@ fn take_in(
                 end: (cursor.passed + front.size) as u32,
             },
         ),
-        Found::Fault(what) => Err(fault(what, cursor.place)),
+        FoundPiece::Fault(what) => Err(fault_at(what, cursor.place)),
     }
 }
 
-/// A fault with no place of a first access.
-fn fault(what: ProgramWhat, place: Place) -> Refused<ProgramFault>
+/// The refusal by a fault at this place.
+fn fault_at(what: ProgramWhat, place: Place) -> Refused<ProgramFault>
     ensures { result ≡ Refused.Fault (record { what = what; place = place; first = None }) }
 {
     Refused::Fault(ProgramFault {
@@ -98,12 +97,12 @@ fn fault(what: ProgramWhat, place: Place) -> Refused<ProgramFault>
     })
 }
 
-/// Adds a token, if it is none too many.
-fn add(tokens: &mut PlainList<Token>, token: Token) -> Result<(), Refused<ProgramFault>>
-    ensures { Takes (tokens_with tokens.old (Some (Ok token))) result tokens.new }
+/// Appends a token. A token past the limit is `Big`.
+fn append_token(tokens: &mut PlainList<Token>, token: Token) -> Result<(), Refused<ProgramFault>>
+    ensures { Appends (append_optional tokens.old (Some (Ok token))) result tokens.new }
 {
-    if tokens.as_slice().len() >= MOST_TOKENS {
-        return Err(fault(ProgramWhat::Big, token.place));
+    if tokens.as_slice().len() >= TOKEN_LIMIT {
+        return Err(fault_at(ProgramWhat::Big, token.place));
     }
     tokens.push(token)?;
     Ok(())

@@ -4,8 +4,8 @@
 
 mod cases;
 mod cursor;
-mod front;
 pub mod laws;
+mod leading;
 mod lexer;
 mod shared;
 #[cfg(test)]

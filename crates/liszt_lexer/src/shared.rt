@@ -1,14 +1,21 @@
 //! Which types threads may share, and move between one another.
 
+ghost use Rattle.std.specs.Prelude.{◌≡◌};
+
 use crate::lexer::TokenList;
 use crate::token::{Token, TokenKind};
 
-fn needs_shared<T: Send + Sync>() {}
+/// One, for a type that may be shared.
+fn shared<T: Send + Sync>() -> usize
+    ensures { result ≡ 1 }
+{
+    1
+}
 
-/// Each type of this crate may be shared: this compiles.
+/// The number of types of this crate, each of which may be shared.
 #[allow(dead_code)]
-fn types_are_shared() {
-    needs_shared::<TokenKind>();
-    needs_shared::<Token>();
-    needs_shared::<TokenList>();
+fn shared_types() -> usize
+    ensures { result ≡ 3 }
+{
+    shared::<TokenKind>() + shared::<Token>() + shared::<TokenList>()
 }

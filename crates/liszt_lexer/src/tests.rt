@@ -3,10 +3,10 @@ use liszt_base::{Place, Refused};
 use std::alloc::{AllocError, Global};
 use std::fmt::Write;
 
-const PROGRAM: &str =
+const PROGRAM_TEXT: &str =
     "field Deg : Vertex = 0;\nfor (e <- edges(mesh)) { Deg(head(e)) += 1; Deg(tail(e)) += 1 }\n";
 
-const PROGRAM_TOLD: &str = concat!(
+const PROGRAM_TOKENS: &str = concat!(
     "Word(0)@1:1 Name@1:7 Symbol(6)@1:11 Word(11)@1:13 Symbol(22)@1:20 Number(0)@1:22 Symbol(5)@1:23 ",
     "Word(6)@2:1 Symbol(0)@2:5 Name@2:6 Symbol(7)@2:8 Word(22)@2:11 Symbol(0)@2:16 Word(8)@2:17 Symbol(1)@2:21 ",
     "Symbol(1)@2:22 Symbol(2)@2:24 ",
@@ -17,7 +17,7 @@ const PROGRAM_TOLD: &str = concat!(
 );
 
 const ROWS: [(&str, &str); 13] = [
-    (PROGRAM, PROGRAM_TOLD),
+    (PROGRAM_TEXT, PROGRAM_TOKENS),
     ("", "end@1:1"),
     (" \t\r\n", "end@2:1"),
     ("i<-1", "Name@1:1 Symbol(7)@1:2 Number(1)@1:4 end@1:5"),
@@ -47,44 +47,44 @@ const ROWS: [(&str, &str); 13] = [
     ),
 ];
 
-fn tell_place(told: &mut String, place: Place) -> Result<(), AllocError> {
+fn write_place(description: &mut String, place: Place) -> Result<(), AllocError> {
     let line = place.line;
     let col = place.col;
-    write!(told, "@{line}:{col}")
+    write!(description, "@{line}:{col}")
 }
 
 /// The tokens of a text with their places, or its fault.
-fn tell(told: &mut String, list: &TokenList) -> Result<(), AllocError> {
+fn write_tokens(description: &mut String, list: &TokenList) -> Result<(), AllocError> {
     for token in list.as_slice() {
         let kind = token.kind;
-        write!(told, "{kind:?}")?;
-        tell_place(told, token.place)?;
-        told.push_str(" ")?;
+        write!(description, "{kind:?}")?;
+        write_place(description, token.place)?;
+        description.push_str(" ")?;
     }
-    told.push_str("end")?;
-    tell_place(told, list.end())
+    description.push_str("end")?;
+    write_place(description, list.end())
 }
 
-fn told_of(alloc: Global, text: &str) -> Result<String, AllocError> {
+fn description_of(alloc: Global, text: &str) -> Result<String, AllocError> {
     let bytes = text.as_bytes();
-    let mut told = String::new(alloc);
+    let mut description = String::new(alloc);
     match tokens(alloc, &bytes[..bytes.len().min(1000)]) {
-        Ok(list) => tell(&mut told, &list)?,
+        Ok(list) => write_tokens(&mut description, &list)?,
         Err(Refused::Fault(fault)) => {
             let what = fault.what;
-            write!(told, "{what:?}")?;
-            tell_place(&mut told, fault.place)?;
+            write!(description, "{what:?}")?;
+            write_place(&mut description, fault.place)?;
         }
         Err(Refused::NoMemory) => return Err(AllocError),
     }
-    Ok(told)
+    Ok(description)
 }
 
 /// Kinds and places of the tokens of some texts, and their faults.
 #[test]
 fn tokens_of_texts(rt: HostRuntime) -> Result<(), AllocError> {
-    for (text, told) in ROWS {
-        assert_eq!(rt; told_of(rt.alloc(), text)?.as_str(), told);
+    for (text, description) in ROWS {
+        assert_eq!(rt; description_of(rt.alloc(), text)?.as_str(), description);
     }
     Ok(())
 }

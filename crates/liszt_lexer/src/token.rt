@@ -1,6 +1,6 @@
 use liszt_base::Place;
 
-/// What a token is. `Word` and `Symbol` hold the place, from 0, in the lists of reserved words and of symbols.
+/// The kind of a token. `Word` and `Symbol` have the index, from 0, in the lists of reserved words and of symbols.
 #[derive(Clone, Copy, Debug, PartialEq, Eq)]
 pub enum TokenKind {
     Name,
@@ -11,7 +11,7 @@ pub enum TokenKind {
     MaxSet,
 }
 
-/// A token with its place, and its first byte in the text and the byte behind its last, from 0.
+/// A token with its place, the index of its first byte in the text, and the index after its last byte, from 0.
 #[derive(Clone, Copy, Debug, PartialEq, Eq)]
 pub struct Token {
     pub kind: TokenKind,

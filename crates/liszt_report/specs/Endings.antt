@@ -1,5 +1,5 @@
 -- Endings, their status and their texts. This project's own.
-use Rattle.std.specs.Prelude.{ℕ, ◌+◌, ◌+ℤ◌, ℤ, nat_abs, Option, Some, None, List, [], ◌∷◌, ◌++◌, length, codes}
+use Rattle.std.specs.Prelude.{ℕ, ◌+◌, ℤ, nat_abs, Option, Some, None, List, [], ◌∷◌, ◌++◌, codes}
 use Rattle.std.specs.List.{flat_map, range_with_len}
 use Rattle.std.specs.Fmt.{decimal, signed_decimal}
 use Rattle.liszt_base.specs.declared.answers.Input.{Input}

@@ -28,7 +28,8 @@ pub fn write_values<S: Sink>(
     requires name { length name.now ≤ 64 }
     requires count { count ≤ 2 ^ 63 }
     ensures cause { HasCause (S.faults out.old) (S.faults out.new) result }
-    ensures writes { Writes (field_text name.now (λ _. value) count) (S.output out.old) (S.output out.new) result }
+    ensures writes { Writes (field_text name.now (λ _. value) count) (S.output out.old)
+        (S.output out.new) result }
 {
     let mut line = LineBuf::new();
     for id in 0..count {

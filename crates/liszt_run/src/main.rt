@@ -46,7 +46,8 @@ fn unread_ending(kind: ErrorKind) -> Ended
 
 /// The words of the command line, or the ending for arguments that could not be read.
 fn words_of(alloc: Global, args: io::Result<Args>) -> Result<WordList, Ended>
-    ensures words { IfOk args (λ given. IfOk result (λ words. words ≡ map string_bytes (drop 1 (into_iter_items given)))) }
+    ensures words { IfOk args (λ given. IfOk result (λ words.
+        words ≡ map string_bytes (drop 1 (into_iter_items given)))) }
     ensures memory { IfOk args (λ _. IfErr result (λ ended. ended ≡ OutOfMemory)) }
     ensures unread { IfErr args (λ e. result ≡ Err (UnreadEnding (error_kind e))) }
 {
@@ -65,7 +66,8 @@ fn run_given<R: Threads + Wait + Sync, F: Shelf, S: Sink>(
     out: &mut S,
 ) -> Ended
     ensures ran { IfOk words (λ words. Wrote words (S.output out.old) (S.output out.new) result) }
-    ensures refused { IfErr words (λ ended. Refuses ended (S.output out.old) (S.output out.new) result) }
+    ensures refused { IfErr words (λ ended.
+        Refuses ended (S.output out.old) (S.output out.new) result) }
     ensures flushed { (result ≡ NotWritten → ⊥) → S.is_flushed out.new ≡ true }
 {
     match words {

@@ -1,6 +1,3 @@
-pub mod Buckets
-pub mod Choices
 pub mod Elements
-pub mod Incidence
+pub mod Internal
 pub mod Meshes
-pub mod Tables

@@ -4,7 +4,7 @@ use Rattle.liszt_base.specs.MeshLists.{MeshLists}
 use Rattle.liszt_base.specs.declared.mesh.Point.{Point}
 use Rattle.liszt_base.specs.declared.mesh.RawCell.{RawCell}
 
--- the numbering of elements asks for the number of the points alone
+-- the numbering of elements depends on the number of points, and on nothing else of them
 abbrev pub some_point : Point
 some_point = record { x = pos 0; y = pos 0; z = pos 0; mark = pos 0 }
 
@@ -14,9 +14,9 @@ cell a b c d = record { corners = a ∷ b ∷ c ∷ d ∷ []; region = pos 0 }
 abbrev pub one_cell : MeshLists
 one_cell = record { points = replicate 4 some_point; cells = cell 0 1 2 3 ∷ []; base = 1 }
 
--- a cell whose line doesn't ascend, and a point that no cell has
-abbrev pub one_turned : MeshLists
-one_turned = record { points = replicate 5 some_point; cells = cell 1 0 2 3 ∷ []; base = 0 }
+-- a cell whose line is not ascending, and a point that no cell has
+abbrev pub one_reversed : MeshLists
+one_reversed = record { points = replicate 5 some_point; cells = cell 1 0 2 3 ∷ []; base = 0 }
 
 abbrev pub two_cells : MeshLists
 two_cells = record { points = replicate 5 some_point; cells = cell 0 1 2 3 ∷ cell 1 2 3 4 ∷ []; base = 0 }

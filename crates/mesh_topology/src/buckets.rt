@@ -1,14 +1,14 @@
-//! Lists of ids that grow in any order, one behind the other in one buffer.
+//! Lists of ids in one buffer, which can be appended to in any order.
 
 ghost use Rattle.std.specs.Prelude.{◌≡◌, ◌<◌, ◌^◌, [], ◌∷◌, ◌++◌, IfOk, Some, length, slice_get, slice_index, slice_index_or};
 ghost use Rattle.std.specs.List.{slice_set};
-ghost use Rattle.mesh_topology.specs.Buckets.{AreStartsOf, IsEmptyWith};
+ghost use Rattle.mesh_topology.specs.Internal.Buckets.{AreStartsOf, IsEmptyWith};
 
 use liszt_base::{NoMemory, PlainLists};
 use std::alloc::Global;
 use std::marker::Model;
 
-/// Lists that have room for so many ids each. Contracts see the lists and the rooms.
+/// Lists of fixed capacity. Contracts see the lists and their capacities.
 #[derive(Drop)]
 pub struct Buckets {
     items: Vec<u32>,
@@ -18,39 +18,40 @@ pub struct Buckets {
 
 impl Model for Buckets {
     ghost use Rattle.std.specs.Prelude.{length};
-    ghost use Rattle.mesh_topology.specs.Buckets.{filled, AreApart, Filled};
+    ghost use Rattle.mesh_topology.specs.Internal.Buckets.{bucket_lists, AreApart, BucketLists};
 
-    ghost Value = { Filled };
+    ghost Value = { BucketLists };
 
-    ghost view = { λ b. filled b.starts.items b.ends.items b.items.items };
+    ghost view = { λ b. bucket_lists b.starts.items b.ends.items b.items.items };
 
     ghost invariant = { λ b. AreApart b.starts.items b.ends.items (length b.items.items) };
 }
 
-/// Where lists with room for so many ids begin, and where the last one ends.
-fn starts_of(alloc: Global, rooms: &[u32]) -> Result<Vec<usize>, NoMemory>
-    requires { length rooms.now < 2 ^ 32 }
-    ensures { IfOk result (λ starts. AreStartsOf rooms.now (length rooms.now) starts.items) }
+/// The start of each list of these capacities in one buffer, and the end of the last one.
+fn list_starts(alloc: Global, capacities: &[u32]) -> Result<Vec<usize>, NoMemory>
+    requires { length capacities.now < 2 ^ 32 }
+    ensures { IfOk result (λ starts. AreStartsOf capacities.now
+        (length capacities.now) starts.items) }
 {
     let mut starts = Vec::new(alloc);
     let mut next = 0;
     starts.push(next)?;
-    for room in rooms {
-        next += *room as usize;
+    for capacity in capacities {
+        next += *capacity as usize;
         starts.push(next)?;
     }
     Ok(starts)
 }
 
 impl Buckets {
-    /// Empty lists with room for so many ids.
-    pub fn new(alloc: Global, rooms: &[u32]) -> Result<Buckets, NoMemory>
-        requires { length rooms.now < 2 ^ 32 }
-        ensures { IfOk result (λ buckets. IsEmptyWith rooms.now buckets) }
+    /// Empty lists of these capacities.
+    pub fn new(alloc: Global, capacities: &[u32]) -> Result<Buckets, NoMemory>
+        requires { length capacities.now < 2 ^ 32 }
+        ensures { IfOk result (λ buckets. IsEmptyWith capacities.now buckets) }
     {
-        let starts = starts_of(alloc, rooms)?;
-        let ends = Vec::from_slice(alloc, &starts[..rooms.len()])?;
-        let items = vec![in alloc; 0; starts[rooms.len()]]?;
+        let starts = list_starts(alloc, capacities)?;
+        let ends = Vec::from_slice(alloc, &starts[..capacities.len()])?;
+        let items = vec![in alloc; 0; starts[capacities.len()]]?;
         Ok(Buckets {
             items,
             starts,
@@ -58,19 +59,21 @@ impl Buckets {
         })
     }
 
-    /// Adds an id at the end of a list.
+    /// Appends an id to a list that is not full.
     pub fn push(&mut self, list: u32, id: u32)
         requires below { list < length self.old.lists }
-        requires room { length (slice_index_or self.old.lists list []) < slice_index self.old.rooms list }
-        ensures lists { self.new.lists ≡ slice_set self.old.lists list (slice_index_or self.old.lists list [] ++ id ∷ []) }
-        ensures rooms { self.new.rooms ≡ self.old.rooms }
+        requires capacity { length
+            (slice_index_or self.old.lists list []) < slice_index self.old.capacities list }
+        ensures lists { self.new.lists
+            ≡ slice_set self.old.lists list (slice_index_or self.old.lists list [] ++ id ∷ []) }
+        ensures capacities { self.new.capacities ≡ self.old.capacities }
     {
         let end = self.ends[list as usize];
         self.items[end] = id;
         self.ends[list as usize] = end + 1;
     }
 
-    /// The lists.
+    /// A copy of the lists.
     pub fn lists(&self, alloc: Global) -> Result<PlainLists<u32>, NoMemory>
         ensures { IfOk result (λ lists. lists ≡ self.now.lists) }
     {
@@ -81,14 +84,14 @@ impl Buckets {
         Ok(lists)
     }
 
-    /// How many lists there are.
+    /// The number of lists.
     pub fn len(&self) -> usize
         ensures { result ≡ length self.now.lists }
     {
         self.ends.len()
     }
 
-    /// A list by its place, from 0.
+    /// The list at an index, from 0.
     pub fn of(&self, place: usize) -> &[u32]
         requires { place < length self.now.lists }
         ensures { slice_get self.now.lists place ≡ Some result.now }

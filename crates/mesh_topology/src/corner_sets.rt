@@ -2,32 +2,34 @@
 
 ghost use Rattle.std.specs.Prelude.{◌≡◌, ◌≢◌, ℕ, ◌+◌, ◌<◌, ◌≤◌, List, [], length, slice_index_or, IfOk, IfSome, IfNone};
 ghost use Rattle.std.specs.List.{Contains};
-ghost use Rattle.mesh_topology.specs.Choices.{choices, first_of, AreRanks, AreStarts, IsIndexed, IsSmallTable};
+ghost use Rattle.mesh_topology.specs.Internal.Combinations.{combinations, first_corner, AreRanks, AreStarts, IsIndexed, IsSmallTable};
 
 use liszt_base::NoMemory;
 use std::alloc::Global;
 
-/// The three pairs of three corners, each in their order.
+/// The three pairs of three corners, each in the order of the corners.
 pub fn pairs_of_three(corners: [u32; 3]) -> [[u32; 2]; 3]
-    ensures { result ≡ choices 2 corners }
+    ensures { result ≡ combinations 2 corners }
 {
     let [a, b, c] = corners;
     [[a, b], [a, c], [b, c]]
 }
 
-/// The four triples of four corners, each in their order.
+/// The four triples of four corners, each in the order of the corners.
 pub fn triples_of_four(corners: [u32; 4]) -> [[u32; 3]; 4]
-    ensures { result ≡ choices 3 corners }
+    ensures { result ≡ combinations 3 corners }
 {
     let [a, b, c, d] = corners;
     [[a, b, c], [a, b, d], [a, c, d], [b, c, d]]
 }
 
-/// Where a set of corners stands in a table.
-pub fn place<const N: usize>(table: &[[u32; N]], set: &[u32; N]) -> Option<u32>
+/// The index of a set of corners in a table.
+pub fn index_of<const N: usize>(table: &[[u32; N]], set: &[u32; N]) -> Option<u32>
     requires { IsSmallTable table.now }
-    ensures found { IfSome result (λ id. (id < length table.now) × (slice_index_or table.now id [] ≡ set.now)) }
-    ensures none { IfNone result ((id : ℕ) → id < length table.now → slice_index_or table.now id [] ≢ set.now) }
+    ensures some { IfSome result
+        (λ id. (id < length table.now) × (slice_index_or table.now id [] ≡ set.now)) }
+    ensures none { IfNone result
+        ((id : ℕ) → id < length table.now → slice_index_or table.now id [] ≢ set.now) }
 {
     match table.binary_search(set) {
         Ok(id) => Some(id as u32),
@@ -35,9 +37,9 @@ pub fn place<const N: usize>(table: &[[u32; N]], set: &[u32; N]) -> Option<u32>
     }
 }
 
-/// The first of the corners of a set, 0 where there is none.
-pub fn first_of<const N: usize>(set: &[u32; N]) -> u32
-    ensures { result ≡ first_of set.now }
+/// The first corner of a set, or 0 if the set is empty.
+pub fn first_corner<const N: usize>(set: &[u32; N]) -> u32
+    ensures { result ≡ first_corner set.now }
 {
     match set.first() {
         Some(v) => *v,
@@ -45,21 +47,23 @@ pub fn first_of<const N: usize>(set: &[u32; N]) -> u32
     }
 }
 
-/// Where the sets end, from a place on, that begin with less than a number.
-fn skip<const N: usize>(table: &[[u32; N]], from: usize, v: u32) -> usize
+/// The index of the first set, from `from` on, that begins with `v` or a larger number.
+fn first_at_least<const N: usize>(table: &[[u32; N]], from: usize, v: u32) -> usize
     requires { from ≤ length table.now }
     ensures range { (from ≤ result) × (result ≤ length table.now) }
-    ensures below { (id : ℕ) → from ≤ id → id < result → first_of (slice_index_or table.now id []) < v }
-    ensures stops { result < length table.now → v ≤ first_of (slice_index_or table.now result []) }
+    ensures below { (id : ℕ) → from ≤ id → id < result
+        → first_corner (slice_index_or table.now id []) < v }
+    ensures at_result { result < length table.now
+        → v ≤ first_corner (slice_index_or table.now result []) }
 {
     let mut next = from;
-    while next < table.len() && first_of(&table[next]) < v {
+    while next < table.len() && first_corner(&table[next]) < v {
         next += 1;
     }
     next
 }
 
-/// Where the sets that begin with each number start in a table, for the numbers up to and with the last one.
+/// For each number from 0 to `last` the index of the first set that begins with that number or a larger one.
 pub fn starts<const N: usize>(
     alloc: Global,
     table: &[[u32; N]],
@@ -71,30 +75,30 @@ pub fn starts<const N: usize>(
     let mut starts = Vec::new(alloc);
     let mut next = 0;
     for v in 0..last {
-        next = skip(table, next, v);
+        next = first_at_least(table, next, v);
         starts.push(next)?;
     }
-    starts.push(skip(table, next, last))?;
+    starts.push(first_at_least(table, next, last))?;
     Ok(starts)
 }
 
-/// The place of a set that stands in a table.
+/// The index of a set that the table contains. The `starts` bound the search.
 fn rank<const N: usize>(table: &[[u32; N]], starts: &[usize], set: &[u32; N]) -> u32
     requires table { IsIndexed table.now starts.now }
     requires inside { Contains table.now set.now }
     ensures below { result < length table.now }
-    ensures stands { slice_index_or table.now result [] ≡ set.now }
+    ensures at_result { slice_index_or table.now result [] ≡ set.now }
 {
-    let first = first_of(set) as usize;
+    let first = first_corner(set) as usize;
     let low = starts[first];
     let high = starts[first + 1];
-    match place(&table[low..high], set) {
+    match index_of(&table[low..high], set) {
         Some(id) => low as u32 + id,
         None => unreachable!(),
     }
 }
 
-/// The places of sets that stand in a table.
+/// The indices of sets that the table contains.
 pub fn ranks<const N: usize, const L: usize>(
     table: &[[u32; N]],
     starts: &[usize],

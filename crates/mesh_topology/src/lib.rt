@@ -1,5 +1,5 @@
-//! The elements of a tetrahedral mesh: the definitions of which there are, how they are numbered, and which lie beside which,
-//! with their laws, and the mesh whose tables keep them.
+//! The elements of a tetrahedral mesh, their numbers and their incidence: the definitions, laws of these, and `Mesh`, which
+//! keeps them in tables.
 #![tactic(auto)]
 
 mod buckets;

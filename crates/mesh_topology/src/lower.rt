@@ -1,11 +1,11 @@
-//! The tables of a mesh that the others are made of: corners, the edges of faces, and the cells of each element.
+//! The tables of a mesh from which the others are computed: corners, the edges of faces, and the cells of each element.
 
 ghost use Rattle.std.specs.Prelude.{IfOk};
-ghost use Rattle.mesh_topology.specs.Tables.{AreSets, IsLower, IsSmallMesh};
+ghost use Rattle.mesh_topology.specs.Internal.Tables.{AreCornerTables, AreLowerTables, IsSmallMesh};
 
-use crate::cells_of::{all_with, pairs_of};
+use crate::cells_of::{edge_corner_pairs, selected_cells};
 use crate::corner_sets::starts;
-use crate::incidence::turn;
+use crate::incidence::transpose;
 use crate::tables::{cell_vertices, edges, face_edges, faces};
 use liszt_base::{NoMemory, PlainLists, RawMesh};
 use std::alloc::Global;
@@ -19,23 +19,24 @@ pub struct CornerTables {
     pub vertex_cells: PlainLists<u32>,
 }
 
-/// These tables, the edges of each face, and the cells of each edge and face.
+/// The corner tables, the edges of each face, and the cells of each edge and face.
 #[derive(Drop)]
-pub struct Lower {
+pub struct LowerTables {
     pub sets: CornerTables,
     pub face_edges: Vec<[u32; 3]>,
     pub edge_cells: PlainLists<u32>,
     pub face_cells: PlainLists<u32>,
 }
 
-fn build_sets(alloc: Global, raw: &RawMesh) -> Result<CornerTables, NoMemory>
+/// The corner tables of a mesh, or out of memory.
+fn build_corner_tables(alloc: Global, raw: &RawMesh) -> Result<CornerTables, NoMemory>
     requires { IsSmallMesh raw.now }
-    ensures { IfOk result (AreSets raw.now) }
+    ensures { IfOk result (AreCornerTables raw.now) }
 {
     let cells = cell_vertices(alloc, raw.cells())?;
     let vertices = raw.points().len() as u32;
-    let turned = turn(alloc, cells.as_slice(), vertices)?;
-    let vertex_cells = turned.lists(alloc)?;
+    let transposed = transpose(alloc, cells.as_slice(), vertices)?;
+    let vertex_cells = transposed.lists(alloc)?;
     let edges = edges(alloc, cells.as_slice(), &vertex_cells)?;
     let faces = faces(alloc, cells.as_slice(), &vertex_cells)?;
     Ok(CornerTables {
@@ -46,12 +47,12 @@ fn build_sets(alloc: Global, raw: &RawMesh) -> Result<CornerTables, NoMemory>
     })
 }
 
-/// These tables of a mesh.
-pub fn build_lower(alloc: Global, raw: &RawMesh) -> Result<Lower, NoMemory>
+/// The lower tables of a mesh, or out of memory.
+pub fn build_lower_tables(alloc: Global, raw: &RawMesh) -> Result<LowerTables, NoMemory>
     requires { IsSmallMesh raw.now }
-    ensures { IfOk result (IsLower raw.now) }
+    ensures { IfOk result (AreLowerTables raw.now) }
 {
-    let sets = build_sets(alloc, raw)?;
+    let sets = build_corner_tables(alloc, raw)?;
     let vertices = raw.points().len() as u32;
     let edge_starts = starts(alloc, sets.edges.as_slice(), vertices)?;
     let face_edges = face_edges(
@@ -60,15 +61,15 @@ pub fn build_lower(alloc: Global, raw: &RawMesh) -> Result<Lower, NoMemory>
         edge_starts.as_slice(),
         sets.faces.as_slice(),
     )?;
-    let edge_cells = all_with(
+    let edge_cells = selected_cells(
         alloc,
         sets.cells.as_slice(),
         sets.edges.as_slice(),
         &sets.vertex_cells,
     )?;
-    let pairs = pairs_of(alloc, sets.faces.as_slice(), face_edges.as_slice())?;
-    let face_cells = all_with(alloc, sets.cells.as_slice(), pairs.as_slice(), &edge_cells)?;
-    Ok(Lower {
+    let pairs = edge_corner_pairs(alloc, sets.faces.as_slice(), face_edges.as_slice())?;
+    let face_cells = selected_cells(alloc, sets.cells.as_slice(), pairs.as_slice(), &edge_cells)?;
+    Ok(LowerTables {
         sets,
         face_edges,
         edge_cells,

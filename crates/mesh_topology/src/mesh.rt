@@ -1,16 +1,15 @@
-//! A mesh with the tables of its elements.
+//! A mesh whose elements are numbered, with the tables of incident elements.
 
 ghost use Rattle.std.specs.Prelude.{◌≡◌, ◌<◌, ◌^◌, true, [], ◌∷◌, IfOk, IfSome, Some, length, slice_get};
 ghost use Rattle.std.specs.Option.{option_to_list};
 ghost use Rattle.liszt_base.specs.Corners.{IsMesh};
 ghost use Rattle.liszt_base.specs.declared.elements.Kind.{Kind as KindOf};
 ghost use Rattle.liszt_base.specs.declared.elements.Kind.TheVariants.{Vertex, Edge, Face, Cell};
-ghost use Rattle.mesh_topology.specs.Elements.{corner_lists, count, corners, id_of_corners, near, sides};
-ghost use Rattle.mesh_topology.specs.Tables.{has_near};
+ghost use Rattle.mesh_topology.specs.Elements.{corner_lists, count, corners, id_of_corners, near, sides, has_near};
 
-use crate::corner_sets::place;
-use crate::lower::{Lower, build_lower};
-use crate::upper::{Upper, build_upper};
+use crate::corner_sets::index_of;
+use crate::lower::{LowerTables, build_lower_tables};
+use crate::upper::{UpperTables, build_upper_tables};
 use liszt_base::{Kind, NoMemory, Point, RawMesh};
 use std::alloc::Global;
 use std::marker::Model;
@@ -19,13 +18,13 @@ use std::marker::Model;
 #[derive(Drop)]
 pub struct Mesh {
     raw: RawMesh,
-    lower: Lower,
-    upper: Upper,
+    lower: LowerTables,
+    upper: UpperTables,
 }
 
 impl Model for Mesh {
     ghost use Rattle.liszt_base.specs.MeshLists.{MeshLists};
-    ghost use Rattle.mesh_topology.specs.Tables.{HasTables};
+    ghost use Rattle.mesh_topology.specs.Internal.Tables.{HasTables};
 
     ghost Value = { MeshLists };
 
@@ -35,25 +34,26 @@ impl Model for Mesh {
 }
 
 impl Mesh {
-    /// The mesh of these points and cells, with its tables.
+    /// Numbers the elements of a mesh and computes its tables, or is out of memory. A mesh as `tet_reader` gives it fits if
+    /// it has fewer than 2^32 elements of each kind.
     pub fn build(alloc: Global, raw: RawMesh) -> Result<Mesh, NoMemory>
         requires mesh { IsMesh (length raw.points) (corner_lists raw) }
         requires fits { (kind : KindOf) → count raw kind < 2 ^ 32 }
         ensures { IfOk result (λ mesh. mesh ≡ raw) }
     {
-        let lower = build_lower(alloc, &raw)?;
-        let upper = build_upper(alloc, &raw, &lower)?;
+        let lower = build_lower_tables(alloc, &raw)?;
+        let upper = build_upper_tables(alloc, &raw, &lower)?;
         Ok(Mesh { raw, lower, upper })
     }
 
-    /// What is known of every mesh: its cells fit together. It does nothing.
+    /// States that the cells of every mesh fit together; it has no effect.
     pub fn fits_together(&self)
         ensures { IsMesh (length self.now.points) (corner_lists self.now) }
     {
         let _cells = self.raw.cells();
     }
 
-    /// How many elements of a kind there are.
+    /// The number of elements of a kind.
     pub fn count(&self, kind: Kind) -> u32
         ensures { result ≡ count self.now kind }
     {
@@ -65,7 +65,7 @@ impl Mesh {
         }
     }
 
-    /// The two ends of an edge, the lower one first.
+    /// The two ends of an edge, ascending vertex ids.
     pub fn edge_ends(&self, e: u32) -> (u32, u32)
         requires { e < count self.now Edge }
         ensures { corners self.now Edge e ≡ result.0 ∷ result.1 ∷ [] }
@@ -74,7 +74,7 @@ impl Mesh {
         (a, b)
     }
 
-    /// The three corners of a face, ascending.
+    /// The three corners of a face, ascending vertex ids.
     pub fn face_corners(&self, f: u32) -> [u32; 3]
         requires { f < count self.now Face }
         ensures { result ≡ corners self.now Face f }
@@ -82,7 +82,7 @@ impl Mesh {
         self.lower.sets.faces[f as usize]
     }
 
-    /// The four corners of a cell, in the order of its line.
+    /// The four corners of a cell, vertex ids in the order of its line.
     pub fn cell_corners(&self, c: u32) -> [u32; 4]
         requires { c < count self.now Cell }
         ensures { result ≡ corners self.now Cell c }
@@ -90,17 +90,17 @@ impl Mesh {
         self.raw.cells()[c as usize].corners
     }
 
-    /// The edge between two vertices, in either order.
+    /// The id of the edge between two vertices, which are in either order, or `None` if there is no such edge.
     pub fn edge_number(&self, a: u32, b: u32) -> Option<u32>
         requires first { a < count self.now Vertex }
         requires second { b < count self.now Vertex }
         ensures { result ≡ id_of_corners self.now Edge (a ∷ b ∷ []) }
     {
         let ends = if a < b { [a, b] } else { [b, a] };
-        place(self.lower.sets.edges.as_slice(), &ends)
+        index_of(self.lower.sets.edges.as_slice(), &ends)
     }
 
-    /// A vertex's point.
+    /// The point of a vertex.
     pub fn point(&self, v: u32) -> Point
         requires { v < count self.now Vertex }
         ensures { slice_get self.now.points v ≡ Some result }
@@ -108,7 +108,7 @@ impl Mesh {
         self.raw.points()[v as usize]
     }
 
-    /// A cell's region.
+    /// The region of a cell.
     pub fn region(&self, c: u32) -> i64
         requires { c < count self.now Cell }
         ensures { IfSome (slice_get self.now.cells c) (λ cell. cell.region ≡ result) }
@@ -116,7 +116,7 @@ impl Mesh {
         self.raw.cells()[c as usize].region
     }
 
-    /// The cells beside a face: the one with the lower number, and the other one, where there is one.
+    /// The ids of the one or two cells beside a face, ascending.
     pub fn face_cells(&self, f: u32) -> (u32, Option<u32>)
         requires { f < count self.now Face }
         ensures { sides self.now f ≡ result.0 ∷ option_to_list result.1 }
@@ -128,8 +128,8 @@ impl Mesh {
         }
     }
 
-    /// The ids of a kind near an element, ascending: of those that lie in it or in which it lies, of the vertices that
-    /// share an edge with a vertex, and of the cells that share a face with a cell.
+    /// The ids of the elements of the kind `out` that are incident with an element, ascending: those that lie in it or in
+    /// which it lies; for two vertices those that share an edge with it, for two cells those that share a face with it.
     pub fn near(&self, kind: Kind, id: u32, out: Kind) -> &[u32]
         requires below { id < count self.now kind }
         requires has { has_near kind out ≡ true }

@@ -1,4 +1,4 @@
-//! Lists of so many ids at most, each in a row of its own.
+//! Lists of at most `N` ids, each in a row of its own.
 
 ghost use Rattle.std.specs.Prelude.{◌≡◌, ◌<◌, ◌^◌, [], ◌∷◌, ◌++◌, IfOk, Some, length, replicate, slice_get, slice_index_or};
 ghost use Rattle.std.specs.List.{slice_set};
@@ -7,7 +7,7 @@ use liszt_base::NoMemory;
 use std::alloc::Global;
 use std::marker::Model;
 
-/// Lists of so many ids at most. Contracts see the lists.
+/// Lists of at most `N` ids. Contracts see the lists.
 #[derive(Drop)]
 pub struct Rows<const N: usize> {
     rows: Vec<[u32; N]>,
@@ -16,17 +16,17 @@ pub struct Rows<const N: usize> {
 
 impl<const N: usize> Model for Rows<N> {
     ghost use Rattle.std.specs.Prelude.{List, ℕ};
-    ghost use Rattle.mesh_topology.specs.Buckets.{fronts, AreInside};
+    ghost use Rattle.mesh_topology.specs.Internal.Buckets.{prefixes, AreRowCounts};
 
     ghost Value = { List (List ℕ) };
 
-    ghost view = { λ r. fronts r.counts.items r.rows.items };
+    ghost view = { λ r. prefixes r.counts.items r.rows.items };
 
-    ghost invariant = { λ r. AreInside N r.counts.items r.rows.items };
+    ghost invariant = { λ r. AreRowCounts N r.counts.items r.rows.items };
 }
 
 impl<const N: usize> Rows<N> {
-    /// Empty lists.
+    /// `count` empty lists.
     pub fn new(alloc: Global, count: u32) -> Result<Rows<N>, NoMemory>
         requires { N < 2 ^ 8 }
         ensures { IfOk result (λ lists. lists ≡ replicate count []) }
@@ -36,10 +36,10 @@ impl<const N: usize> Rows<N> {
         Ok(Rows { rows, counts })
     }
 
-    /// Adds an id at the end of a list.
+    /// Appends an id to a list.
     pub fn push(&mut self, list: u32, id: u32)
         requires below { list < length self.old }
-        requires room { length (slice_index_or self.old list []) < N }
+        requires capacity { length (slice_index_or self.old list []) < N }
         ensures { self.new ≡ slice_set self.old list (slice_index_or self.old list [] ++ id ∷ []) }
     {
         let count = self.counts[list as usize];
@@ -47,7 +47,7 @@ impl<const N: usize> Rows<N> {
         self.counts[list as usize] = count + 1;
     }
 
-    /// A list by its place, from 0.
+    /// The list at an index, from 0.
     pub fn of(&self, place: usize) -> &[u32]
         requires { place < length self.now }
         ensures { slice_get self.now place ≡ Some result.now }

@@ -1,11 +1,20 @@
-//! Threads may share a mesh.
+//! Which types threads may share, and move between one another.
+
+ghost use Rattle.std.specs.Prelude.{◌≡◌};
 
 use crate::mesh::Mesh;
 
-fn needs_shared<T: Send + Sync>() {}
+/// One, for a type that may be shared.
+fn shared<T: Send + Sync>() -> usize
+    ensures { result ≡ 1 }
+{
+    1
+}
 
-/// A mesh may be shared: this compiles.
+/// The number of types of this crate, each of which may be shared.
 #[allow(dead_code)]
-fn meshes_are_shared() {
-    needs_shared::<Mesh>();
+fn shared_types() -> usize
+    ensures { result ≡ 1 }
+{
+    shared::<Mesh>()
 }

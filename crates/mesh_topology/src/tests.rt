@@ -68,7 +68,7 @@ fn edge_is(mesh: &Mesh, a: u32, b: u32, expected: Option<u32>) -> bool {
     a < vertices && b < vertices && mesh.edge_number(a, b) == expected
 }
 
-/// What lies beside what in the two cells.
+/// Incidence in the two cells.
 fn is_as_drawn(mesh: &Mesh) -> bool {
     vertices_near(mesh, 0, &[1, 2, 3])
         && vertices_near(mesh, 1, &[0, 2, 3, 4])

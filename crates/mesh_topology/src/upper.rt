@@ -1,11 +1,11 @@
-//! The tables of a mesh that are made of the lower ones.
+//! The tables of a mesh that are computed from the lower ones.
 
 ghost use Rattle.std.specs.Prelude.{IfOk};
-ghost use Rattle.mesh_topology.specs.Tables.{IsLower, IsSmallMesh, IsUpper};
+ghost use Rattle.mesh_topology.specs.Internal.Tables.{AreLowerTables, IsSmallMesh, AreUpperTables};
 
 use crate::buckets::Buckets;
-use crate::incidence::{all_beside, all_joined, turn, turn_lists};
-use crate::lower::Lower;
+use crate::incidence::{neighbour_lists, sorted_partners, transpose, transpose_lists};
+use crate::lower::LowerTables;
 use crate::rows::Rows;
 use liszt_base::{NoMemory, PlainLists, RawMesh};
 use std::alloc::Global;
@@ -13,7 +13,7 @@ use std::alloc::Global;
 /// The edges and faces of each vertex, the faces of each edge, the edges and faces of each cell, the vertices that share an
 /// edge with each vertex, and the cells that share a face with each cell.
 #[derive(Drop)]
-pub struct Upper {
+pub struct UpperTables {
     pub vertex_vertices: PlainLists<u32>,
     pub vertex_edges: Buckets,
     pub vertex_faces: Buckets,
@@ -23,23 +23,27 @@ pub struct Upper {
     pub cell_cells: PlainLists<u32>,
 }
 
-/// These tables of a mesh.
-pub fn build_upper(alloc: Global, raw: &RawMesh, lower: &Lower) -> Result<Upper, NoMemory>
+/// The upper tables of a mesh, or out of memory.
+pub fn build_upper_tables(
+    alloc: Global,
+    raw: &RawMesh,
+    lower: &LowerTables,
+) -> Result<UpperTables, NoMemory>
     requires small { IsSmallMesh raw.now }
-    requires lower { IsLower raw.now lower.now }
-    ensures { IfOk result (IsUpper raw.now) }
+    requires lower { AreLowerTables raw.now lower.now }
+    ensures { IfOk result (AreUpperTables raw.now) }
 {
     let vertices = raw.points().len() as u32;
     let edges = lower.sets.edges.len() as u32;
     let cells = raw.cells().len() as u32;
-    let vertex_edges = turn(alloc, lower.sets.edges.as_slice(), vertices)?;
-    let vertex_faces = turn(alloc, lower.sets.faces.as_slice(), vertices)?;
-    let edge_faces = turn(alloc, lower.face_edges.as_slice(), edges)?;
-    let cell_edges = turn_lists(alloc, &lower.edge_cells, cells)?;
-    let cell_faces = turn_lists(alloc, &lower.face_cells, cells)?;
-    let vertex_vertices = all_beside(alloc, &vertex_edges, lower.sets.edges.as_slice())?;
-    let cell_cells = all_joined(alloc, &lower.face_cells, cells)?;
-    Ok(Upper {
+    let vertex_edges = transpose(alloc, lower.sets.edges.as_slice(), vertices)?;
+    let vertex_faces = transpose(alloc, lower.sets.faces.as_slice(), vertices)?;
+    let edge_faces = transpose(alloc, lower.face_edges.as_slice(), edges)?;
+    let cell_edges = transpose_lists(alloc, &lower.edge_cells, cells)?;
+    let cell_faces = transpose_lists(alloc, &lower.face_cells, cells)?;
+    let vertex_vertices = neighbour_lists(alloc, &vertex_edges, lower.sets.edges.as_slice())?;
+    let cell_cells = sorted_partners(alloc, &lower.face_cells, cells)?;
+    Ok(UpperTables {
         vertex_vertices,
         vertex_edges,
         vertex_faces,

@@ -1,5 +1,6 @@
-pub mod Checking
-pub mod Parts
-pub mod Phases
-pub mod Typing
-pub mod Walking
+pub mod BindingLemmas
+pub mod FaultLemmas
+pub mod ModeLemmas
+pub mod PartLemmas
+pub mod StepLemmas
+pub mod TypeLemmas

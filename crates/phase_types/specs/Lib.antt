@@ -1,5 +1,5 @@
-pub mod Cases
-pub mod Names
+pub mod Environments
+pub mod Internal
 pub mod Typed
 pub mod Types
 pub mod Walk

@@ -10,80 +10,80 @@ use Rattle.liszt_tree.specs.declared.tree.How.{How}
 use Rattle.liszt_tree.specs.declared.tree.How.TheVariants.{Set, Fold, Less}
 use Rattle.liszt_tree.specs.Tree.{Expression, Statement, Var, Val, Assign, If, While, For, Body, no_statement, statement}
 use Rattle.liszt_tree.specs.Tree.{MainItem, MainField, MainVar, MainAssign, MainIf, MainWhile, MainFor, Print, Main, no_item, item}
-use Rattle.phase_types.specs.Names.{Names, FieldName, ScalarName, LocalName, ElementName, named, is_built_in, Comprehension, Here, start, behind_item, comprehension_at, into_block, out_of_block, behind_main}
+use Rattle.phase_types.specs.Environments.{Environment, FieldName, ScalarName, LocalName, ElementName, binding_of, is_built_in, Comprehension, Site, start, after_item, comprehension_at, block_start, after_block, after_main}
 use Rattle.phase_types.specs.Types.{NumberType, TruthType, ElementType, HasType}
 use Rattle.phase_types.specs.Walk.{AccessAt, accesses_of, is_subject}
 
-abbrev pub IsNew : Names → List ℕ → Type 0
-IsNew names name = named names name ≡ None
+abbrev pub IsNew : Environment → List ℕ → Type 0
+IsNew environment name = binding_of environment name ≡ None
 
--- by an operator, and not by `=`
+-- an assignment by an operator, and not by `=`
 abbrev pub IsReduction : How → Type 0
 IsReduction Set = ⊥
 IsReduction (Fold op) = Unit {0}
 IsReduction Less = Unit {0}
 
--- STATEMENTS with the names visible before and behind them, and bodies
+-- STATEMENTS, each with the environment at entry and the one after it, and bodies
 mutual
-  pub data StatementFits : Names → Statement → Names → Type 0 where
-    FitsVar : {names : Names} {init : Expression} (place : Place) (name : List ℕ) (at : Place) → HasType names init NumberType → IsNew names name
-        → StatementFits names (Var place name at init) ((name, LocalName) ∷ names)
-    FitsVal : {names : Names} {kind : Kind} {init : Expression} (place : Place) (name : List ℕ) (at : Place) → HasType names init (ElementType kind)
-        → IsNew names name → StatementFits names (Val place name at init) ((name, ElementName kind) ∷ names)
-    FitsField : {names : Names} {number : ℕ} {kind : Kind} {target set_to : Expression} (place : Place) (name : List ℕ) (how : How)
-        → named names name ≡ Some (FieldName number kind) → is_built_in number ≡ false → HasType names target (ElementType kind)
-        → HasType names set_to NumberType → StatementFits names (Assign place name (Some target) how set_to) names
-    FitsScalar : {names : Names} {number : ℕ} {set_to : Expression} (place : Place) (name : List ℕ) (how : How)
-        → named names name ≡ Some (ScalarName number) → IsReduction how → HasType names set_to NumberType
-        → StatementFits names (Assign place name None how set_to) names
-    FitsLocal : {names : Names} {set_to : Expression} (place : Place) (name : List ℕ) (how : How) → named names name ≡ Some LocalName
-        → HasType names set_to NumberType → StatementFits names (Assign place name None how set_to) names
-    FitsIf : {names : Names} {test : Expression} {first second : Body} (place : Place) (has_else : Bool) → HasType names test TruthType
-        → BodyFits names first → BodyFits names second → StatementFits names (If place test first second has_else) names
-    FitsWhile : {names : Names} {test : Expression} {body : Body} (place : Place) → HasType names test TruthType → BodyFits names body
-        → StatementFits names (While place test body) names
-    FitsFor : {names : Names} {kind : Kind} {arg : Expression} {body : Body} (place : Place) (name : List ℕ) (at : Place) (set : SetName) (set_at : Place)
-        → HasType names arg (ElementType kind) → has_set kind set ≡ true → IsNew names name → BodyFits ((name, ElementName (kind_of set)) ∷ names) body
-        → StatementFits names (For place name at set set_at arg body) names
+  pub data StatementFits : Environment → Statement → Environment → Type 0 where
+    FitsVar : {environment : Environment} {init : Expression} (place : Place) (name : List ℕ) (at : Place) → HasType environment init NumberType → IsNew environment name
+        → StatementFits environment (Var place name at init) ((name, LocalName) ∷ environment)
+    FitsVal : {environment : Environment} {kind : Kind} {init : Expression} (place : Place) (name : List ℕ) (at : Place) → HasType environment init (ElementType kind)
+        → IsNew environment name → StatementFits environment (Val place name at init) ((name, ElementName kind) ∷ environment)
+    FitsField : {environment : Environment} {number : ℕ} {kind : Kind} {target set_to : Expression} (place : Place) (name : List ℕ) (how : How)
+        → binding_of environment name ≡ Some (FieldName number kind) → is_built_in number ≡ false → HasType environment target (ElementType kind)
+        → HasType environment set_to NumberType → StatementFits environment (Assign place name (Some target) how set_to) environment
+    FitsScalar : {environment : Environment} {number : ℕ} {set_to : Expression} (place : Place) (name : List ℕ) (how : How)
+        → binding_of environment name ≡ Some (ScalarName number) → IsReduction how → HasType environment set_to NumberType
+        → StatementFits environment (Assign place name None how set_to) environment
+    FitsLocal : {environment : Environment} {set_to : Expression} (place : Place) (name : List ℕ) (how : How) → binding_of environment name ≡ Some LocalName
+        → HasType environment set_to NumberType → StatementFits environment (Assign place name None how set_to) environment
+    FitsIf : {environment : Environment} {test : Expression} {first second : Body} (place : Place) (has_else : Bool) → HasType environment test TruthType
+        → BodyFits environment first → BodyFits environment second → StatementFits environment (If place test first second has_else) environment
+    FitsWhile : {environment : Environment} {test : Expression} {body : Body} (place : Place) → HasType environment test TruthType → BodyFits environment body
+        → StatementFits environment (While place test body) environment
+    FitsFor : {environment : Environment} {kind : Kind} {arg : Expression} {body : Body} (place : Place) (name : List ℕ) (at : Place) (set : SetName) (set_at : Place)
+        → HasType environment arg (ElementType kind) → has_set kind set ≡ true → IsNew environment name → BodyFits ((name, ElementName (kind_of set)) ∷ environment) body
+        → StatementFits environment (For place name at set set_at arg body) environment
 
-  pub data BodyFits : Names → Body → Type 0 where
-    FitsNothing : (names : Names) → BodyFits names no_statement
-    FitsThen : {names behind : Names} {s : Statement} {more : Body} → StatementFits names s behind → BodyFits behind more
-        → BodyFits names (statement s more)
+  pub data BodyFits : Environment → Body → Type 0 where
+    FitsNothing : (environment : Environment) → BodyFits environment no_statement
+    FitsThen : {environment behind : Environment} {s : Statement} {rest : Body} → StatementFits environment s behind → BodyFits behind rest
+        → BodyFits environment (statement s rest)
 
--- ONE MODE: each access has the mode of every later one to the same field or scalar.
+-- ONE MODE: two accesses to the same field or scalar have the same mode.
 abbrev pub AgreesWith : AccessAt → AccessAt → Type 0
 AgreesWith access other = is_subject access.subject other.subject ≡ true → access.mode ≡ other.mode
 
 abbrev pub HaveOneMode : List AccessAt → Type 0
 HaveOneMode [] = Unit {0}
-HaveOneMode (access ∷ more) = AllByRecursion (AgreesWith access) more × HaveOneMode more
+HaveOneMode (access ∷ rest) = AllByRecursion (AgreesWith access) rest × HaveOneMode rest
 
 pub record ComprehensionFits (c : Comprehension) : Type 0 where
-  pub body_fits : BodyFits ((c.name, ElementName c.over) ∷ c.names) c.body
+  pub body_fits : BodyFits ((c.name, ElementName c.over) ∷ c.environment) c.body
   pub one_mode : HaveOneMode (accesses_of c)
 
--- ITEMS of the main program, where they stand, and programs
+-- ITEMS of the main program at their sites, and programs
 mutual
-  pub data ItemFits : Here → MainItem → Type 0 where
-    FitsMainField : {here : Here} {init : Expression} (place : Place) (name : List ℕ) (at : Place) (kind : Kind) → HasType here.names init NumberType
-        → IsNew here.names name → ItemFits here (MainField place name at kind init)
-    FitsMainVar : {here : Here} {init : Expression} (place : Place) (name : List ℕ) (at : Place) → HasType here.names init NumberType
-        → IsNew here.names name → ItemFits here (MainVar place name at init)
-    FitsMainAssign : {here : Here} {number : ℕ} {set_to : Expression} (place : Place) (name : List ℕ) (how : How)
-        → named here.names name ≡ Some (ScalarName number) → HasType here.names set_to NumberType → ItemFits here (MainAssign place name how set_to)
-    FitsMainIf : {here : Here} {test : Expression} {first second : Main} (place : Place) (has_else : Bool) → HasType here.names test TruthType
-        → MainFits (into_block here) first → MainFits (into_block (out_of_block here (behind_main (into_block here) first))) second
-        → ItemFits here (MainIf place test first second has_else)
-    FitsMainWhile : {here : Here} {test : Expression} {body : Main} (place : Place) → HasType here.names test TruthType → MainFits (into_block here) body
-        → ItemFits here (MainWhile place test body)
-    FitsMainFor : {here : Here} {body : Body} (place : Place) (name : List ℕ) (at : Place) (over : Kind) → IsNew here.names name
-        → ComprehensionFits (comprehension_at here name over body) → ItemFits here (MainFor place name at over body)
-    FitsPrint : {here : Here} {value : Expression} (place : Place) → HasType here.names value NumberType → ItemFits here (Print place value)
+  pub data ItemFits : Site → MainItem → Type 0 where
+    FitsMainField : {site : Site} {init : Expression} (place : Place) (name : List ℕ) (at : Place) (kind : Kind) → HasType site.environment init NumberType
+        → IsNew site.environment name → ItemFits site (MainField place name at kind init)
+    FitsMainVar : {site : Site} {init : Expression} (place : Place) (name : List ℕ) (at : Place) → HasType site.environment init NumberType
+        → IsNew site.environment name → ItemFits site (MainVar place name at init)
+    FitsMainAssign : {site : Site} {number : ℕ} {set_to : Expression} (place : Place) (name : List ℕ) (how : How)
+        → binding_of site.environment name ≡ Some (ScalarName number) → HasType site.environment set_to NumberType → ItemFits site (MainAssign place name how set_to)
+    FitsMainIf : {site : Site} {test : Expression} {first second : Main} (place : Place) (has_else : Bool) → HasType site.environment test TruthType
+        → MainFits (block_start site) first → MainFits (block_start (after_block site (after_main (block_start site) first))) second
+        → ItemFits site (MainIf place test first second has_else)
+    FitsMainWhile : {site : Site} {test : Expression} {body : Main} (place : Place) → HasType site.environment test TruthType → MainFits (block_start site) body
+        → ItemFits site (MainWhile place test body)
+    FitsMainFor : {site : Site} {body : Body} (place : Place) (name : List ℕ) (at : Place) (over : Kind) → IsNew site.environment name
+        → ComprehensionFits (comprehension_at site name over body) → ItemFits site (MainFor place name at over body)
+    FitsPrint : {site : Site} {value : Expression} (place : Place) → HasType site.environment value NumberType → ItemFits site (Print place value)
 
-  pub data MainFits : Here → Main → Type 0 where
-    FitsNoItem : (here : Here) → MainFits here no_item
-    FitsItems : {here : Here} {i : MainItem} {more : Main} → ItemFits here i → MainFits (behind_item here i) more → MainFits here (item i more)
+  pub data MainFits : Site → Main → Type 0 where
+    FitsNoItem : (site : Site) → MainFits site no_item
+    FitsItems : {site : Site} {i : MainItem} {rest : Main} → ItemFits site i → MainFits (after_item site i) rest → MainFits site (item i rest)
 
 abbrev pub IsTyped : Main → Type 0
 IsTyped program = MainFits start program

@@ -1,4 +1,4 @@
--- The walk through a program, its accesses, and the first fault. This project's own; that a field has one mode in a comprehension
+-- The walk through a program, its accesses, and its first fault. This project's own; that a field has one mode in a comprehension
 -- is the Liszt paper's (DeVito et al., Supercomputing 2011).
 use Rattle.std.specs.Prelude.{ℕ, ◌==◌, not, Bool, true, false, if◌then◌else◌, Option, Some, None, is_some, List, [], ◌∷◌, ◌++◌, map}
 use Rattle.std.specs.List.{find, filter, filter_map, list_any}
@@ -18,7 +18,7 @@ use Rattle.liszt_tree.specs.declared.tree.How.TheVariants.{Set, Fold, Less}
 use Rattle.liszt_tree.specs.Tree.{Expression, Number, Name, Field, Call, Towards, Neg, Not, Chain, Compare, Links, no_links, link}
 use Rattle.liszt_tree.specs.Tree.{Statement, Var, Val, Assign, If, While, For, Body, no_statement, statement}
 use Rattle.liszt_tree.specs.Tree.{MainItem, MainField, MainVar, MainAssign, MainIf, MainWhile, MainFor, Print, Main, no_item, item}
-use Rattle.phase_types.specs.Names.{Names, Named, FieldName, ScalarName, LocalName, ElementName, named, is_built_in, Comprehension, Here, start, behind_item, comprehension_at, into_block, out_of_block, behind_main, comprehension_of}
+use Rattle.phase_types.specs.Environments.{Environment, Binding, FieldName, ScalarName, LocalName, ElementName, binding_of, is_built_in, Comprehension, Site, start, after_item, comprehension_at, block_start, after_block, after_main, comprehension_of}
 use Rattle.phase_types.specs.Types.{ValueType, NumberType, TruthType, ElementType, is_type, type_of, operator_type}
 
 -- ACCESSES of a comprehension: to a field or a scalar of the main program, in a mode, at a place
@@ -58,26 +58,26 @@ mode_by Set = Write
 mode_by (Fold op) = Reduce op
 mode_by Less = Reduce Add
 
--- THE WALK is a list of steps in the order of the text: tests, each with what it finds, and accesses.
+-- THE WALK is a list of steps in the order of the text: tests, each with its fault if it fails, and accesses.
 pub data Step : Type 0 where
-  Test : Option ProgramFault → Step
-  Accesses : AccessAt → Step
+  TestStep : Option ProgramFault → Step
+  AccessStep : AccessAt → Step
 
 abbrev pub fault_at : ProgramWhat → Place → ProgramFault
 fault_at what place = record { what = what; place = place; first = None }
 
-abbrev pub fails : ProgramWhat → Place → List Step
-fails what place = Test (Some (fault_at what place)) ∷ []
+abbrev pub failure : ProgramWhat → Place → List Step
+failure what place = TestStep (Some (fault_at what place)) ∷ []
 
-abbrev pub needs : Bool → ProgramWhat → Place → List Step
-needs true what place = Test None ∷ []
-needs false what place = fails what place
+abbrev pub requirement : Bool → ProgramWhat → Place → List Step
+requirement true what place = TestStep None ∷ []
+requirement false what place = failure what place
 
-abbrev pub uses : Subject → Mode → Place → List Step
-uses subject mode place = Accesses (record { subject = subject; mode = mode; place = place }) ∷ []
+abbrev pub access_step : Subject → Mode → Place → List Step
+access_step subject mode place = AccessStep (record { subject = subject; mode = mode; place = place }) ∷ []
 
--- The place of an expression: of its first word, of its operator, and of a chain's first operator; a chain without one, which no text has,
--- stands where its operand does.
+-- The place of an expression is that of its operator, for a chain that of the first operator, and else that of its first word. A chain
+-- without an operator, which no text has, is at its operand.
 abbrev pub place_of : Expression → Place
 place_of (Number place value) = place
 place_of (Name place name) = place
@@ -86,11 +86,11 @@ place_of (Call place fun arg) = place
 place_of (Towards place arg to) = place
 place_of (Neg place arg) = place
 place_of (Not place arg) = place
-place_of (Chain level first (link sign place arg more)) = place
+place_of (Chain level first (link sign place arg rest)) = place
 place_of (Chain level first no_links) = place_of first
 place_of (Compare place rel left right) = place
 
--- whether an expression has a type; whether it is an element that has a set
+-- whether a type is the expected one; whether it is that of an element with a set
 abbrev pub has_type : ValueType → Option ValueType → Bool
 has_type type None = false
 has_type type (Some other) = is_type type other
@@ -99,107 +99,107 @@ abbrev pub has_members : SetName → Option ValueType → Bool
 has_members set (Some (ElementType kind)) = has_set kind set
 has_members set _ = false
 
--- THE STEPS OF AN EXPRESSION: of a name; of a field's name, with those of its argument; of a whole expression, operands first. A whole
--- whose operands' types don't fit it has no type.
-abbrev pub name_steps : Place → Option Named → List Step
-name_steps place None = fails NameUnknown place
-name_steps place (Some (FieldName number kind)) = fails TypeMismatch place
-name_steps place (Some (ScalarName number)) = uses (OfScalar number) Read place
+-- THE STEPS OF AN EXPRESSION: of a name; of a field at an argument; of any expression, operands first. An expression whose operands have
+-- unsuitable types has no type, and is a type mismatch.
+abbrev pub name_steps : Place → Option Binding → List Step
+name_steps place None = failure NameUnknown place
+name_steps place (Some (FieldName number kind)) = failure TypeMismatch place
+name_steps place (Some (ScalarName number)) = access_step (OfScalar number) Read place
 name_steps place (Some LocalName) = []
 name_steps place (Some (ElementName kind)) = []
 
-abbrev pub field_steps : Place → Option Named → Option ValueType → List Step → List Step
-field_steps place None type arg = fails NameUnknown place
+abbrev pub field_steps : Place → Option Binding → Option ValueType → List Step → List Step
+field_steps place None type arg = failure NameUnknown place
 field_steps place (Some (FieldName number kind)) type arg =
-    arg ++ needs (has_type (ElementType kind) type) TypeMismatch place ++ uses (OfField number) Read place
-field_steps place (Some other) type arg = fails TypeMismatch place
+    arg ++ requirement (has_type (ElementType kind) type) TypeMismatch place ++ access_step (OfField number) Read place
+field_steps place (Some other) type arg = failure TypeMismatch place
 
-abbrev pub fits : Option ValueType → Place → List Step
-fits type place = needs (is_some type) TypeMismatch place
+abbrev pub type_requirement : Option ValueType → Place → List Step
+type_requirement type place = requirement (is_some type) TypeMismatch place
 
 abbrev mutual
-  pub steps_of : Names → Expression → List Step
-  steps_of names (Number place value) = []
-  steps_of names (Name place name) = name_steps place (named names name)
-  steps_of names (Field place name arg) = field_steps place (named names name) (type_of names arg) (steps_of names arg)
-  steps_of names (Call place fun arg) = steps_of names arg ++ fits (type_of names (Call place fun arg)) place
-  steps_of names (Towards place arg to) = steps_of names arg ++ steps_of names to ++ fits (type_of names (Towards place arg to)) place
-  steps_of names (Neg place arg) = steps_of names arg ++ fits (type_of names (Neg place arg)) place
-  steps_of names (Not place arg) = steps_of names arg ++ fits (type_of names (Not place arg)) place
-  steps_of names (Chain level first links) = steps_of names first ++ steps_behind names (type_of names first) links
-  steps_of names (Compare place rel left right) =
-      steps_of names left ++ steps_of names right ++ fits (type_of names (Compare place rel left right)) place
+  pub steps_of : Environment → Expression → List Step
+  steps_of environment (Number place value) = []
+  steps_of environment (Name place name) = name_steps place (binding_of environment name)
+  steps_of environment (Field place name arg) = field_steps place (binding_of environment name) (type_of environment arg) (steps_of environment arg)
+  steps_of environment (Call place fun arg) = steps_of environment arg ++ type_requirement (type_of environment (Call place fun arg)) place
+  steps_of environment (Towards place arg to) = steps_of environment arg ++ steps_of environment to ++ type_requirement (type_of environment (Towards place arg to)) place
+  steps_of environment (Neg place arg) = steps_of environment arg ++ type_requirement (type_of environment (Neg place arg)) place
+  steps_of environment (Not place arg) = steps_of environment arg ++ type_requirement (type_of environment (Not place arg)) place
+  steps_of environment (Chain level first links) = steps_of environment first ++ link_steps environment (type_of environment first) links
+  steps_of environment (Compare place rel left right) =
+      steps_of environment left ++ steps_of environment right ++ type_requirement (type_of environment (Compare place rel left right)) place
 
-  pub steps_behind : Names → Option ValueType → Links → List Step
-  steps_behind names type no_links = []
-  steps_behind names type (link sign place arg more) =
-      steps_of names arg ++ fits (operator_type sign type (type_of names arg)) place
-      ++ steps_behind names (operator_type sign type (type_of names arg)) more
+  pub link_steps : Environment → Option ValueType → Links → List Step
+  link_steps environment type no_links = []
+  link_steps environment type (link sign place arg rest) =
+      steps_of environment arg ++ type_requirement (operator_type sign type (type_of environment arg)) place
+      ++ link_steps environment (operator_type sign type (type_of environment arg)) rest
 
--- an expression that has to be a number, or a truth value, and a name that has to be new
-abbrev pub typed_steps : Names → ValueType → Expression → List Step
-typed_steps names type e = steps_of names e ++ needs (has_type type (type_of names e)) TypeMismatch (place_of e)
+-- the steps of an expression that must have a type; the test of a name that must be new
+abbrev pub typed_steps : Environment → ValueType → Expression → List Step
+typed_steps environment type e = steps_of environment e ++ requirement (has_type type (type_of environment e)) TypeMismatch (place_of e)
 
-abbrev pub new_name : Names → List ℕ → Place → List Step
-new_name names name at = needs (not (is_some (named names name))) NameTwice at
+abbrev pub name_requirement : Environment → List ℕ → Place → List Step
+name_requirement environment name at = requirement (not (is_some (binding_of environment name))) NameTwice at
 
--- THE STEPS OF A BODY. What is visible behind a statement: `var` and `val` declare, to the end of their block.
-abbrev pub with_val : List ℕ → Option ValueType → Names → Names
-with_val name (Some (ElementType kind)) names = (name, ElementName kind) ∷ names
-with_val name _ names = names
+-- THE STEPS OF A BODY. The environment after a statement: `var` and `val` declare a name up to the end of the block.
+abbrev pub with_val : List ℕ → Option ValueType → Environment → Environment
+with_val name (Some (ElementType kind)) environment = (name, ElementName kind) ∷ environment
+with_val name _ environment = environment
 
-abbrev pub names_behind : Names → Statement → Names
-names_behind names (Var place name at init) = (name, LocalName) ∷ names
-names_behind names (Val place name at init) = with_val name (type_of names init) names
-names_behind names _ = names
+abbrev pub environment_after : Environment → Statement → Environment
+environment_after environment (Var place name at init) = (name, LocalName) ∷ environment
+environment_after environment (Val place name at init) = with_val name (type_of environment init) environment
+environment_after environment _ = environment
 
 abbrev pub val_steps : Option ValueType → Place → List Step
 val_steps (Some (ElementType kind)) place = []
-val_steps _ place = fails TypeMismatch place
+val_steps _ place = failure TypeMismatch place
 
--- an assignment to F(x), and to a name, with the steps of the value
-abbrev pub target_steps : Place → How → Option Named → Option ValueType → List Step → List Step → List Step
-target_steps place how None type target value = fails NameUnknown place
-target_steps place how (Some (FieldName number kind)) type target value =
-    needs (not (is_built_in number)) BuiltinWrite place ++ target ++ needs (has_type (ElementType kind) type) TypeMismatch place
-    ++ uses (OfField number) (mode_by how) place ++ value
-target_steps place how (Some other) type target value = fails TypeMismatch place
+-- an assignment to F(x), and to a name, with the steps of its target and of its value
+abbrev pub field_target_steps : Place → How → Option Binding → Option ValueType → List Step → List Step → List Step
+field_target_steps place how None type target value = failure NameUnknown place
+field_target_steps place how (Some (FieldName number kind)) type target value =
+    requirement (not (is_built_in number)) BuiltinWrite place ++ target ++ requirement (has_type (ElementType kind) type) TypeMismatch place
+    ++ access_step (OfField number) (mode_by how) place ++ value
+field_target_steps place how (Some other) type target value = failure TypeMismatch place
 
 abbrev pub scalar_steps : Place → How → ℕ → List Step
-scalar_steps place Set number = fails ScalarWrite place
-scalar_steps place how number = uses (OfScalar number) (mode_by how) place
+scalar_steps place Set number = failure ScalarWrite place
+scalar_steps place how number = access_step (OfScalar number) (mode_by how) place
 
-abbrev pub plain_steps : Place → How → Option Named → List Step → List Step
-plain_steps place how None value = fails NameUnknown place
-plain_steps place how (Some (ScalarName number)) value = scalar_steps place how number ++ value
-plain_steps place how (Some LocalName) value = value
-plain_steps place how (Some other) value = fails TypeMismatch place
+abbrev pub name_target_steps : Place → How → Option Binding → List Step → List Step
+name_target_steps place how None value = failure NameUnknown place
+name_target_steps place how (Some (ScalarName number)) value = scalar_steps place how number ++ value
+name_target_steps place how (Some LocalName) value = value
+name_target_steps place how (Some other) value = failure TypeMismatch place
 
 abbrev mutual
-  pub statement_steps : Names → Statement → List Step
-  statement_steps names (Var place name at init) = typed_steps names NumberType init ++ new_name names name at
-  statement_steps names (Val place name at init) = steps_of names init ++ val_steps (type_of names init) (place_of init) ++ new_name names name at
-  statement_steps names (Assign place name (Some target) how value) =
-      target_steps place how (named names name) (type_of names target) (steps_of names target) (typed_steps names NumberType value)
-  statement_steps names (Assign place name None how value) = plain_steps place how (named names name) (typed_steps names NumberType value)
-  statement_steps names (If place test first second has_else) =
-      typed_steps names TruthType test ++ body_steps names first ++ body_steps names second
-  statement_steps names (While place test body) = typed_steps names TruthType test ++ body_steps names body
-  statement_steps names (For place name at set set_at arg body) =
-      steps_of names arg ++ needs (has_members set (type_of names arg)) TypeMismatch set_at ++ new_name names name at
-      ++ body_steps ((name, ElementName (kind_of set)) ∷ names) body
+  pub statement_steps : Environment → Statement → List Step
+  statement_steps environment (Var place name at init) = typed_steps environment NumberType init ++ name_requirement environment name at
+  statement_steps environment (Val place name at init) = steps_of environment init ++ val_steps (type_of environment init) (place_of init) ++ name_requirement environment name at
+  statement_steps environment (Assign place name (Some target) how value) =
+      field_target_steps place how (binding_of environment name) (type_of environment target) (steps_of environment target) (typed_steps environment NumberType value)
+  statement_steps environment (Assign place name None how value) = name_target_steps place how (binding_of environment name) (typed_steps environment NumberType value)
+  statement_steps environment (If place test first second has_else) =
+      typed_steps environment TruthType test ++ body_steps environment first ++ body_steps environment second
+  statement_steps environment (While place test body) = typed_steps environment TruthType test ++ body_steps environment body
+  statement_steps environment (For place name at set set_at arg body) =
+      steps_of environment arg ++ requirement (has_members set (type_of environment arg)) TypeMismatch set_at ++ name_requirement environment name at
+      ++ body_steps ((name, ElementName (kind_of set)) ∷ environment) body
 
-  pub body_steps : Names → Body → List Step
-  body_steps names no_statement = []
-  body_steps names (statement s more) = statement_steps names s ++ body_steps (names_behind names s) more
+  pub body_steps : Environment → Body → List Step
+  body_steps environment no_statement = []
+  body_steps environment (statement s rest) = statement_steps environment s ++ body_steps (environment_after environment s) rest
 
 abbrev pub steps_in : Comprehension → List Step
-steps_in c = body_steps ((c.name, ElementName c.over) ∷ c.names) c.body
+steps_in c = body_steps ((c.name, ElementName c.over) ∷ c.environment) c.body
 
 -- THE ACCESSES of a comprehension in the order of the walk, and the mode of a field or a scalar in it: that of its first access
 abbrev pub access_of : Step → Option AccessAt
-access_of (Accesses access) = Some access
-access_of (Test fault) = None
+access_of (AccessStep access) = Some access
+access_of (TestStep fault) = None
 
 abbrev pub accesses_of : Comprehension → List AccessAt
 accesses_of c = filter_map access_of (steps_in c)
@@ -207,61 +207,61 @@ accesses_of c = filter_map access_of (steps_in c)
 abbrev pub mode_in : Comprehension → Subject → Option Mode
 mode_in c subject = option_map (λ access. access.mode) (find (λ access. is_subject subject access.subject) (accesses_of c))
 
--- the same by the numbers of the comprehension and of the field or scalar
+-- the mode by the numbers of the comprehension and of the field or scalar
 abbrev pub mode_of : Main → ℕ → ℕ → Option Mode
 mode_of program k field = option_and_then (λ c. mode_in c (OfField field)) (comprehension_of program k)
 
 abbrev pub scalar_mode_of : Main → ℕ → ℕ → Option Mode
 scalar_mode_of program k scalar = option_and_then (λ c. mode_in c (OfScalar scalar)) (comprehension_of program k)
 
--- WHAT THE STEPS FIND. An access finds a conflict where an earlier one of the comprehension, to the same field or scalar, has another
--- mode; the first place is that of the first access to it.
+-- THE FAULTS OF STEPS. An access is a conflict if an earlier access of the comprehension to the same field or scalar has a different
+-- mode; the fault also names the place of the first access to it.
 abbrev pub conflict_place : AccessAt → List AccessAt → Option Place
 conflict_place access [] = None
-conflict_place access (other ∷ more) =
-    if list_any (λ earlier. not (is_mode access.mode earlier.mode)) (other ∷ more) then Some other.place else None
+conflict_place access (other ∷ rest) =
+    if list_any (λ earlier. not (is_mode access.mode earlier.mode)) (other ∷ rest) then Some other.place else None
 
 abbrev pub conflict : List AccessAt → AccessAt → Option ProgramFault
 conflict earlier access =
     option_map (λ first. record { what = PhaseConflict; place = access.place; first = Some first })
     (conflict_place access (filter (λ other. is_subject access.subject other.subject) earlier))
 
-abbrev pub found_behind : List AccessAt → List Step → List (Option ProgramFault)
-found_behind earlier [] = []
-found_behind earlier (Test fault ∷ steps) = fault ∷ found_behind earlier steps
-found_behind earlier (Accesses access ∷ steps) = conflict earlier access ∷ found_behind (earlier ++ access ∷ []) steps
+abbrev pub faults_in_steps : List AccessAt → List Step → List (Option ProgramFault)
+faults_in_steps earlier [] = []
+faults_in_steps earlier (TestStep fault ∷ steps) = fault ∷ faults_in_steps earlier steps
+faults_in_steps earlier (AccessStep access ∷ steps) = conflict earlier access ∷ faults_in_steps (earlier ++ access ∷ []) steps
 
--- outside comprehensions accesses have no phase
-abbrev pub found_in_main : List Step → List (Option ProgramFault)
-found_in_main steps = map tested steps where
-  tested : Step → Option ProgramFault
-  tested (Test fault) = fault
-  tested (Accesses access) = None
+-- in the main program accesses have no phase
+abbrev pub faults_in_main : List Step → List (Option ProgramFault)
+faults_in_main steps = map fault_of_test steps where
+  fault_of_test : Step → Option ProgramFault
+  fault_of_test (TestStep fault) = fault
+  fault_of_test (AccessStep access) = None
 
--- WHAT THE MAIN PROGRAM'S WALK FINDS, in its order
-abbrev pub assigned_scalar : Place → Option Named → List Step → List Step
-assigned_scalar place None value = fails NameUnknown place
-assigned_scalar place (Some (ScalarName number)) value = value
-assigned_scalar place (Some other) value = fails TypeMismatch place
+-- THE FAULTS OF THE MAIN PROGRAM, in the order of the walk
+abbrev pub main_target_steps : Place → Option Binding → List Step → List Step
+main_target_steps place None value = failure NameUnknown place
+main_target_steps place (Some (ScalarName number)) value = value
+main_target_steps place (Some other) value = failure TypeMismatch place
 
 abbrev mutual
-  pub found_in_item : Here → MainItem → List (Option ProgramFault)
-  found_in_item here (MainField place name at kind init) = found_in_main (typed_steps here.names NumberType init ++ new_name here.names name at)
-  found_in_item here (MainVar place name at init) = found_in_main (typed_steps here.names NumberType init ++ new_name here.names name at)
-  found_in_item here (MainAssign place name how value) =
-      found_in_main (assigned_scalar place (named here.names name) (typed_steps here.names NumberType value))
-  found_in_item here (MainIf place test first second has_else) =
-      found_in_main (typed_steps here.names TruthType test) ++ found_in_items (into_block here) first
-      ++ found_in_items (into_block (out_of_block here (behind_main (into_block here) first))) second
-  found_in_item here (MainWhile place test body) = found_in_main (typed_steps here.names TruthType test) ++ found_in_items (into_block here) body
-  found_in_item here (MainFor place name at over body) =
-      found_in_main (new_name here.names name at) ++ found_behind [] (steps_in (comprehension_at here name over body))
-  found_in_item here (Print place value) = found_in_main (typed_steps here.names NumberType value)
+  pub faults_in_item : Site → MainItem → List (Option ProgramFault)
+  faults_in_item site (MainField place name at kind init) = faults_in_main (typed_steps site.environment NumberType init ++ name_requirement site.environment name at)
+  faults_in_item site (MainVar place name at init) = faults_in_main (typed_steps site.environment NumberType init ++ name_requirement site.environment name at)
+  faults_in_item site (MainAssign place name how value) =
+      faults_in_main (main_target_steps place (binding_of site.environment name) (typed_steps site.environment NumberType value))
+  faults_in_item site (MainIf place test first second has_else) =
+      faults_in_main (typed_steps site.environment TruthType test) ++ faults_in_items (block_start site) first
+      ++ faults_in_items (block_start (after_block site (after_main (block_start site) first))) second
+  faults_in_item site (MainWhile place test body) = faults_in_main (typed_steps site.environment TruthType test) ++ faults_in_items (block_start site) body
+  faults_in_item site (MainFor place name at over body) =
+      faults_in_main (name_requirement site.environment name at) ++ faults_in_steps [] (steps_in (comprehension_at site name over body))
+  faults_in_item site (Print place value) = faults_in_main (typed_steps site.environment NumberType value)
 
-  pub found_in_items : Here → Main → List (Option ProgramFault)
-  found_in_items here no_item = []
-  found_in_items here (item i more) = found_in_item here i ++ found_in_items (behind_item here i) more
+  pub faults_in_items : Site → Main → List (Option ProgramFault)
+  faults_in_items site no_item = []
+  faults_in_items site (item i rest) = faults_in_item site i ++ faults_in_items (after_item site i) rest
 
--- THE FAULT of a program is the first that its walk finds, if it finds one.
+-- THE FAULT of a program is the first of its walk, if there is one.
 abbrev pub check_fault : Main → Option ProgramFault
-check_fault program = option_and_then (λ fault. fault) (find is_some (found_in_items start program))
+check_fault program = option_and_then (λ fault. fault) (find is_some (faults_in_items start program))

@@ -7,13 +7,13 @@ ghost use Rattle.liszt_base.specs.declared.answers.ProgramWhat.TheVariants.{Name
 ghost use Rattle.liszt_base.specs.declared.elements.Kind.TheVariants.{Vertex, Edge, Face, Cell};
 ghost use Rattle.liszt_base.specs.declared.elements.Op.TheVariants.{Add};
 ghost use Rattle.liszt_tree.specs.Trees.{degrees};
-ghost use Rattle.phase_types.specs.Cases.{at, fault, conflict_between, adds_itself, adds_and_multiplies, adds_and_writes, adds_and_takes, unknown_name, name_twice, truth_as_number, third_operand, first_operand, writes_scalar, adds_scalar_to_itself, writes_mark, edges_of_edge, unknown_in_set, edge_for_vertex, blocks, in_line, reads_only, reads_then_writes, scalar_as_target, scalar_as_argument, visits_again, built_in_as_name, name_of_other_block, writes_scalar_unknown, truth_for_built_in, edge_and_vertex, flipped_vertex};
-ghost use Rattle.phase_types.specs.Names.{fields_of, scalars_of, comprehensions_of, scopes_of};
+ghost use Rattle.phase_types.specs.Internal.Cases.{at, fault, conflict_between, adds_itself, adds_and_multiplies, adds_and_writes, adds_and_takes, unknown_name, name_twice, truth_as_number, third_operand, first_operand, writes_scalar, adds_scalar_to_itself, writes_mark, edges_of_edge, unknown_in_set, edge_for_vertex, blocks, column, reads_only, reads_then_writes, scalar_as_target, scalar_as_argument, visits_again, built_in_as_name, name_of_other_block, writes_scalar_unknown, truth_for_built_in, edge_and_vertex, flipped_vertex};
+ghost use Rattle.phase_types.specs.Environments.{fields_of, scalars_of, comprehensions_of, scopes_of};
 ghost use Rattle.phase_types.specs.Walk.{check_fault, mode_of, scalar_mode_of};
 
-/// Each fault once, at its place; of a phase conflict also the place of the first access.
+/// Each fault at its place; for a phase conflict also the place of the first access.
 fn faults()
-    ensures unknown { check_fault unknown_name ≡ fault NameUnknown 1 7 }
+    ensures unknown_at { check_fault unknown_name ≡ fault NameUnknown 1 7 }
     ensures twice { check_fault name_twice ≡ fault NameTwice 1 16 }
     ensures mismatch { check_fault truth_as_number ≡ fault TypeMismatch 1 11 }
     ensures third_operand { check_fault third_operand ≡ fault TypeMismatch 1 13 }
@@ -21,26 +21,28 @@ fn faults()
     ensures read_and_reduced { check_fault adds_itself ≡ conflict_between (at 2 34) (at 2 26) }
     ensures two_operators { check_fault adds_and_multiplies ≡ conflict_between (at 2 37) (at 2 26) }
     ensures scalar_written { check_fault writes_scalar ≡ fault ScalarWrite 2 26 }
-    ensures scalar_conflict { check_fault adds_scalar_to_itself ≡ conflict_between (at 2 31) (at 2 26) }
+    ensures scalar_conflict { check_fault adds_scalar_to_itself
+        ≡ conflict_between (at 2 31) (at 2 26) }
     ensures built_in_written { check_fault writes_mark ≡ fault BuiltinWrite 1 29 }
     ensures no_such_set { check_fault edges_of_edge ≡ fault TypeMismatch 1 36 }
 {}
 
-/// Of two faults the walk finds that of the earlier step: a phase conflict before the value's unknown name, the target's kind before the
+/// The fault is that of the earlier step: a phase conflict before an unknown name in the value, the kind of the target before the
 /// value, and the argument of a set before the set. `-=` is a reduction by `+`.
 fn first_of_two()
-    ensures conflict_before_value { check_fault adds_and_writes ≡ conflict_between (at 2 37) (at 2 26) }
+    ensures conflict_before_value { check_fault adds_and_writes
+        ≡ conflict_between (at 2 37) (at 2 26) }
     ensures target_before_value { check_fault edge_for_vertex ≡ fault TypeMismatch 2 26 }
     ensures argument_before_set { check_fault unknown_in_set ≡ fault NameUnknown 1 50 }
     ensures one_operator { check_fault adds_and_takes ≡ None }
 {}
 
-/// Where accesses stand, and what is walked first: a conflict's first place is that of the first access, a target and a set's argument are
-/// walked with their accesses, a name is tested before a body, and a scalar's `=` before the value. Names end with their block.
+/// The order of steps and the places of faults: a conflict also names the first access; a target and the argument of a set are walked
+/// with their accesses; a name is tested before a body, and `=` to a scalar before the value. Names end with their block.
 fn steps_of_the_walk()
-    ensures first_access { check_fault reads_then_writes ≡ conflict_between (in_line 3) (in_line 1) }
-    ensures in_target { check_fault scalar_as_target ≡ conflict_between (in_line 5) (in_line 3) }
-    ensures in_argument { check_fault scalar_as_argument ≡ conflict_between (in_line 5) (in_line 3) }
+    ensures first_access { check_fault reads_then_writes ≡ conflict_between (column 3) (column 1) }
+    ensures in_target { check_fault scalar_as_target ≡ conflict_between (column 5) (column 3) }
+    ensures in_argument { check_fault scalar_as_argument ≡ conflict_between (column 5) (column 3) }
     ensures name_before_body { check_fault visits_again ≡ fault NameTwice 1 7 }
     ensures built_in_name { check_fault built_in_as_name ≡ fault NameTwice 1 7 }
     ensures other_block { check_fault name_of_other_block ≡ fault NameUnknown 1 2 }

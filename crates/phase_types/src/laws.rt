@@ -2,31 +2,61 @@
 
 ghost use Rattle.std.specs.Prelude.{◌≡◌, ℕ, Some, None, List, ◌∷◌, ◌++◌, length, slice_get};
 ghost use Rattle.liszt_tree.specs.Tree.{Expression, Main, MainItem};
-ghost use Rattle.phase_types.specs.Names.{Names, Here, Part, FieldPart, ScalarPart, ComprehensionPart, ScopePart, Comprehension, GoesOn, behind_item, behind_main, fields_in, scalars_in, comprehensions_in, scopes_in};
+ghost use Rattle.phase_types.specs.Environments.{Environment, Binding, binding_of, Site, start, Part, FieldPart, ScalarPart, ComprehensionPart, ScopePart, Comprehension, IsPrefix, DenotesPart, BindsParts, block_start, after_item, after_main, fields_in, scalars_in, comprehensions_in, scopes_in};
 ghost use Rattle.phase_types.specs.declared.info.FieldInfo.{FieldInfo as Info};
-ghost use Rattle.phase_types.specs.Typed.{IsTyped};
+ghost use Rattle.phase_types.specs.Typed.{IsTyped, ItemFits, MainFits};
 ghost use Rattle.phase_types.specs.Types.{HasType, ValueType, type_of};
 ghost use Rattle.phase_types.specs.Walk.{check_fault};
 
-/// An expression has a type exactly where it is the one that is computed; so it has one at most.
+/// An expression has a type if and only if `type_of` gives that type. So it has at most one.
 pub fn types_are_computed()
-    ensures there { (names : Names) (e : Expression) (type : ValueType) → HasType names e type → type_of names e ≡ Some type }
-    ensures back { (names : Names) (e : Expression) (type : ValueType) → type_of names e ≡ Some type → HasType names e type }
+    ensures complete { (environment : Environment) (e : Expression) (type : ValueType)
+        → HasType environment e type → type_of environment e ≡ Some type }
+    ensures sound { (environment : Environment) (e : Expression) (type : ValueType)
+        → type_of environment e ≡ Some type → HasType environment e type }
 {}
 
-/// The walk finds no fault exactly in typed programs.
-pub fn typed_is_no_fault()
-    ensures there { (program : Main) → IsTyped program → check_fault program ≡ None }
-    ensures back { (program : Main) → check_fault program ≡ None → IsTyped program }
+/// A program is typed if and only if its walk has no fault.
+pub fn typed_programs_have_no_fault()
+    ensures no_fault { (program : Main) → IsTyped program → check_fault program ≡ None }
+    ensures typed { (program : Main) → check_fault program ≡ None → IsTyped program }
 {}
 
-/// Parts of a program are numbered by what stands before them: what is behind an item has all parts that were before it, in front.
-pub fn parts_go_on()
-    ensures items { (here : Here) (i : MainItem) → GoesOn here.before (behind_item here i).before }
-    ensures blocks { (here : Here) (program : Main) → GoesOn here.before (behind_main here program).before }
-    ensures fields { (before more : List Part) (info : Info) → slice_get (fields_in (before ++ FieldPart info ∷ more)) (length (fields_in before)) ≡ Some info }
-    ensures scalars { (before more : List Part) (name : List ℕ) → slice_get (scalars_in (before ++ ScalarPart name ∷ more)) (length (scalars_in before)) ≡ Some name }
-    ensures comprehensions { (before more : List Part) (c : Comprehension)
-        → slice_get (comprehensions_in (before ++ ComprehensionPart c ∷ more)) (length (comprehensions_in before)) ≡ Some c }
-    ensures scopes { (before more : List Part) (parent : ℕ) → slice_get (scopes_in (before ++ ScopePart parent ∷ more)) (length (scopes_in before)) ≡ Some parent }
+/// Parts are numbered in the order of the text: the parts at a site are the first ones after each later item, and the next part of
+/// a sort is at the index that is the number of earlier ones.
+pub fn parts_are_numbered_in_order()
+    ensures after_item { (site : Site) (i : MainItem)
+        → IsPrefix site.parts (after_item site i).parts }
+    ensures after_items { (site : Site) (program : Main)
+        → IsPrefix site.parts (after_main site program).parts }
+    ensures fields { (before rest : List Part) (info : Info)
+        → slice_get (fields_in (before ++ FieldPart info ∷ rest)) (length (fields_in before))
+        ≡ Some info }
+    ensures scalars { (before rest : List Part) (name : List ℕ)
+        → slice_get (scalars_in (before ++ ScalarPart name ∷ rest)) (length (scalars_in before))
+        ≡ Some name }
+    ensures comprehensions { (before rest : List Part) (c : Comprehension)
+        → slice_get (comprehensions_in (before ++ ComprehensionPart c ∷ rest))
+        (length (comprehensions_in before)) ≡ Some c }
+    ensures scopes { (before rest : List Part) (parent : ℕ)
+        → slice_get (scopes_in (before ++ ScopePart parent ∷ rest)) (length (scopes_in before))
+        ≡ Some parent }
+{}
+
+/// Names denote parts by their numbers: at each site the binding of a visible name has the number of the built-in field, or of the
+/// declared field or scalar of that name, and a typed item leaves it unchanged. Later parts change no number.
+pub fn bindings_denote_parts()
+    ensures start { BindsParts start }
+    ensures after_item { (site : Site) (i : MainItem) → BindsParts site → BindsParts (after_item site i) }
+    ensures after_items { (site : Site) (program : Main) → BindsParts site
+        → BindsParts (after_main site program) }
+    ensures block { (site : Site) → BindsParts site → BindsParts (block_start site) }
+    ensures later_parts { (parts rest : List Part) (name : List ℕ) (binding : Binding)
+        → DenotesPart parts name binding → DenotesPart (parts ++ rest) name binding }
+    ensures unchanged_by_item { (site : Site) (i : MainItem) (name : List ℕ) (binding : Binding)
+        → ItemFits site i → binding_of site.environment name ≡ Some binding
+        → binding_of (after_item site i).environment name ≡ Some binding }
+    ensures unchanged_by_items { (site : Site) (program : Main) (name : List ℕ) (binding : Binding)
+        → MainFits site program → binding_of site.environment name ≡ Some binding
+        → binding_of (after_main site program).environment name ≡ Some binding }
 {}

@@ -1,5 +1,5 @@
-//! What a checked program is: the types, names, phases and numbers of a program's parts, and the first fault of the walk that
-//! checks it. So far there are the definitions, with worked cases and laws.
+//! Checked programs: types, environments, the numbers of the parts of a program, phases, and the first fault of the walk that
+//! checks a program. So far definitions, with worked cases and laws.
 #![tactic(auto)]
 
 mod cases;

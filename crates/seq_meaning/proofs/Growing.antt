@@ -3,7 +3,7 @@ use Rattle.std.proofs.Common.{◌≡◌, ℕ, ◌-◌, List, [], ◌∷◌, leng
 use Rattle.std.proofs.lemmas.List.{drop-map, length-map}
 use Rattle.liszt_base.specs.MeshLists.{MeshLists}
 use Rattle.mesh_topology.specs.Elements.{count, numbers}
-use Rattle.phase_types.specs.Names.{Comprehension}
+use Rattle.phase_types.specs.Environments.{Comprehension}
 use Rattle.kernel_eval.specs.Iterations.{opening}
 use Rattle.kernel_eval.specs.Outcomes.{each}
 use Rattle.kernel_eval.specs.States.{State, in_main}
@@ -33,9 +33,9 @@ scope_like before s r = record { fields = dropped_shape length_of before.fields 
 pub over_like : (mesh : MeshLists) (c : Comprehension) (turns : ℕ) (ids : List ℕ) (s : State) → IsLike s (each (behind_iteration mesh c turns) ids s).after
 over_like mesh c turns ids s = record {
   fields = each_stays (λ s. shape length_of s.fields) (behind_iteration mesh c turns)
-      (λ id s. ((keeps_body shapes_kept mesh c.names c.body (λ a t. tt)).kept (opening c turns s id)).like.fields) ids s;
+      (λ id s. ((keeps_body shapes_kept mesh c.environment c.body (λ a t. tt)).kept (opening c turns s id)).like.fields) ids s;
   scalars = each_stays (λ s. shape nothing_of s.scalars) (behind_iteration mesh c turns)
-      (λ id s. ((keeps_body shapes_kept mesh c.names c.body (λ a t. tt)).kept (opening c turns s id)).like.scalars) ids s;
+      (λ id s. ((keeps_body shapes_kept mesh c.environment c.body (λ a t. tt)).kept (opening c turns s id)).like.scalars) ids s;
 }
 
 pub grows_kept : IsStateKept Grows
@@ -49,7 +49,7 @@ grows_kept =
       print = λ n s. grows_like s _ (record { fields = refl; scalars = refl });
       scope = λ before s r. grows_like before _ (scope_like before s r);
       turn = λ n s e. grows_like s _ (record { fields = refl; scalars = refl });
-      number = λ mesh names e s. grows_like s _ ((keeps_number_in shapes_kept mesh names e (λ a t. tt)).kept (in_main s)).like;
-      truth = λ mesh names e s. grows_like s _ ((keeps_truth_in shapes_kept mesh names e (λ a t. tt)).kept (in_main s)).like;
+      number = λ mesh environment e s. grows_like s _ ((keeps_number_in shapes_kept mesh environment e (λ a t. tt)).kept (in_main s)).like;
+      truth = λ mesh environment e s. grows_like s _ ((keeps_truth_in shapes_kept mesh environment e (λ a t. tt)).kept (in_main s)).like;
       over = λ mesh c turns s. grows_like s _ (over_like mesh c turns (numbers 0 (count mesh c.over)) s);
     }

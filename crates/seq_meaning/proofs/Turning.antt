@@ -8,7 +8,7 @@ use Rattle.liszt_base.specs.declared.answers.TrapKind.TheVariants.{Prints, Spent
 use Rattle.liszt_tree.specs.declared.tree.How.{How}
 use Rattle.liszt_tree.specs.Tree.{Expression, MainItem, MainField, MainVar, MainAssign, MainIf, MainWhile, MainFor, Print, Main, no_item, item}
 use Rattle.mesh_topology.specs.Elements.{count, numbers}
-use Rattle.phase_types.specs.Names.{Names, Named, ScalarName, named, Comprehension, Here, next_field, next_scalar, next_scope, next_comprehension, comprehension_at, into_block, is_block, behind_item}
+use Rattle.phase_types.specs.Environments.{Environment, Binding, ScalarName, binding_of, Comprehension, Site, next_field, next_scalar, next_scope, next_comprehension, comprehension_at, block_start, has_else_block, after_item}
 use Rattle.kernel_eval.specs.Kept.{Keeps}
 use Rattle.kernel_eval.specs.Meaning.{assigned, no_meaning, traps, number_in, truth_in}
 use Rattle.kernel_eval.specs.Outcomes.{Stop, Outcome, go_on, and_then}
@@ -16,7 +16,7 @@ use Rattle.kernel_eval.specs.States.{State, scalar_value, with_scalar_value, in_
 use Rattle.kernel_eval.proofs.Doing.{LeadsOn, keeps_then, keeps_either, does_nothing_keeps, keeps_loop}
 use Rattle.kernel_eval.proofs.Keeping.{keeps_number_in, keeps_truth_in}
 use Rattle.kernel_eval.proofs.KeptLaws.{turns_kept}
-use Rattle.seq_meaning.specs.Runs.{Event, FieldDeclared, ScopeOpened, ScopeClosed, ComprehensionMet, Progress, meets, on_state, in_program, number_here, truth_here, with_field, with_scalar, changes_state, scalar_set, name_set, printed, out_of_scope, in_scope, program_turns, behind_iteration, comprehension, whole, all_or_nothing, item_meaning, main_meaning}
+use Rattle.seq_meaning.specs.Runs.{Event, FieldDeclared, ScopeOpened, ScopeClosed, ComprehensionMet, Progress, meets, on_state, in_program, number_at, truth_at, with_field, with_scalar, changes_state, scalar_set, name_set, printed, out_of_scope, in_scope, program_turns, behind_iteration, comprehension, whole, all_or_nothing, item_meaning, main_meaning}
 use Rattle.seq_meaning.proofs.Staying.{each_stays}
 
 pub record IsStateKept (R : State → State → Type 0) : Type 0 where
@@ -28,8 +28,8 @@ pub record IsStateKept (R : State → State → Type 0) : Type 0 where
   pub print : (n : ℤ) (s : State) → R s (record s { prints = s.prints ++ n ∷ [] })
   pub scope : (before s : State) → R before s → R before (out_of_scope before s)
   pub turn : (n : ℕ) (s : State) → s.turns ≡ suc n → R s (record s { turns = n })
-  pub number : (mesh : MeshLists) (names : Names) (e : Expression) (s : State) → R s (number_in mesh names e (in_main s)).after.state
-  pub truth : (mesh : MeshLists) (names : Names) (e : Expression) (s : State) → R s (truth_in mesh names e (in_main s)).after.state
+  pub number : (mesh : MeshLists) (environment : Environment) (e : Expression) (s : State) → R s (number_in mesh environment e (in_main s)).after.state
+  pub truth : (mesh : MeshLists) (environment : Environment) (e : Expression) (s : State) → R s (truth_in mesh environment e (in_main s)).after.state
   pub over : (mesh : MeshLists) (c : Comprehension) (turns : ℕ) (s : State) → R s (comprehension mesh c turns s).after
 
 module _ {R : State → State → Type 0} (k : IsStateKept R) where
@@ -49,17 +49,17 @@ module _ {R : State → State → Type 0} (k : IsStateKept R) where
   traps_keep : {A : Type 0} (kind : TrapKind) (place : Place) → Keeps OfStates (in_program (traps {A = A} kind place))
   traps_keep kind place = record { kept = λ p. k.same p.state }
 
-  number_keeps : (mesh : MeshLists) (here : Here) (e : Expression) → Keeps OfStates (number_here mesh here e)
-  number_keeps mesh here e = record { kept = λ p. k.number mesh here.names e p.state }
+  number_keeps : (mesh : MeshLists) (site : Site) (e : Expression) → Keeps OfStates (number_at mesh site e)
+  number_keeps mesh site e = record { kept = λ p. k.number mesh site.environment e p.state }
 
-  pub truth_keeps : (mesh : MeshLists) (here : Here) (e : Expression) → Keeps OfStates (truth_here mesh here e)
-  truth_keeps mesh here e = record { kept = λ p. k.truth mesh here.names e p.state }
+  pub truth_keeps : (mesh : MeshLists) (site : Site) (e : Expression) → Keeps OfStates (truth_at mesh site e)
+  truth_keeps mesh site e = record { kept = λ p. k.truth mesh site.environment e p.state }
 
   scalar_keeps : (how : How) (n : ℤ) (number : ℕ) (value : Option ℤ) → Keeps OfStates (scalar_set how n number value)
   scalar_keeps how n number (Some old) = record { kept = λ p. k.scalar_changed number (assigned how old n) p.state }
   scalar_keeps how n number None = no_meaning_keeps
 
-  name_keeps : (how : How) (n : ℤ) (global : Option Named) → Keeps OfStates (name_set how n global)
+  name_keeps : (how : How) (n : ℤ) (global : Option Binding) → Keeps OfStates (name_set how n global)
   name_keeps how n (Some (ScalarName number)) = record { kept = λ p. (scalar_keeps how n number (scalar_value p.state number)).kept p }
   name_keeps how n _ = no_meaning_keeps
 
@@ -108,26 +108,26 @@ module _ {R : State → State → Type 0} (k : IsStateKept R) where
 
   -- items
   mutual
-    item_keeps : (mesh : MeshLists) (turns : ℕ) (here : Here) (i : MainItem) → Keeps OfStates (item_meaning mesh turns here i)
-    item_keeps mesh turns here (MainField place name at kind init) =
-        keeps_then leads (number_keeps mesh here init) (λ n. keeps_then leads (declared_keeps (next_field here) (count mesh kind) n)
-        (λ done. meets_keeps (FieldDeclared (next_field here) n)))
-    item_keeps mesh turns here (MainVar place name at init) = keeps_then leads (number_keeps mesh here init) (λ n. variable_keeps (next_scalar here) n)
-    item_keeps mesh turns here (MainAssign place name how value) =
-        keeps_then leads (number_keeps mesh here value) (λ n. name_keeps how n (named here.names name))
-    item_keeps mesh turns here (MainIf place test first second has_else) =
-        keeps_then leads (truth_keeps mesh here test) (λ b. keeps_either b (scope_keeps (next_scope here) (main_keeps mesh turns (into_block here) first))
-        (keeps_either (is_block second has_else) (scope_keeps _ (main_keeps mesh turns _ second)) (does_nothing_keeps leads)))
-    item_keeps mesh turns here (MainWhile place test body) =
-        keeps_loop leads program_turns turn_taken (traps_keep Spent place) (truth_keeps mesh here test)
-        (scope_keeps (next_scope here) (main_keeps mesh turns (into_block here) body))
-    item_keeps mesh turns here (MainFor place name at over body) =
-        keeps_then leads (meets_keeps (ComprehensionMet (next_comprehension here))) (λ done. comprehension_keeps mesh (comprehension_at here name over body) turns)
-    item_keeps mesh turns here (Print place value) = keeps_then leads (number_keeps mesh here value) (λ n. printed_keeps place n)
+    item_keeps : (mesh : MeshLists) (turns : ℕ) (site : Site) (i : MainItem) → Keeps OfStates (item_meaning mesh turns site i)
+    item_keeps mesh turns site (MainField place name at kind init) =
+        keeps_then leads (number_keeps mesh site init) (λ n. keeps_then leads (declared_keeps (next_field site) (count mesh kind) n)
+        (λ done. meets_keeps (FieldDeclared (next_field site) n)))
+    item_keeps mesh turns site (MainVar place name at init) = keeps_then leads (number_keeps mesh site init) (λ n. variable_keeps (next_scalar site) n)
+    item_keeps mesh turns site (MainAssign place name how value) =
+        keeps_then leads (number_keeps mesh site value) (λ n. name_keeps how n (binding_of site.environment name))
+    item_keeps mesh turns site (MainIf place test first second has_else) =
+        keeps_then leads (truth_keeps mesh site test) (λ b. keeps_either b (scope_keeps (next_scope site) (main_keeps mesh turns (block_start site) first))
+        (keeps_either (has_else_block second has_else) (scope_keeps _ (main_keeps mesh turns _ second)) (does_nothing_keeps leads)))
+    item_keeps mesh turns site (MainWhile place test body) =
+        keeps_loop leads program_turns turn_taken (traps_keep Spent place) (truth_keeps mesh site test)
+        (scope_keeps (next_scope site) (main_keeps mesh turns (block_start site) body))
+    item_keeps mesh turns site (MainFor place name at over body) =
+        keeps_then leads (meets_keeps (ComprehensionMet (next_comprehension site))) (λ done. comprehension_keeps mesh (comprehension_at site name over body) turns)
+    item_keeps mesh turns site (Print place value) = keeps_then leads (number_keeps mesh site value) (λ n. printed_keeps place n)
 
-    pub main_keeps : (mesh : MeshLists) (turns : ℕ) (here : Here) (program : Main) → Keeps OfStates (main_meaning mesh turns here program)
-    main_keeps mesh turns here no_item = does_nothing_keeps leads
-    main_keeps mesh turns here (item i more) = keeps_then leads (item_keeps mesh turns here i) (λ done. main_keeps mesh turns (behind_item here i) more)
+    pub main_keeps : (mesh : MeshLists) (turns : ℕ) (site : Site) (program : Main) → Keeps OfStates (main_meaning mesh turns site program)
+    main_keeps mesh turns site no_item = does_nothing_keeps leads
+    main_keeps mesh turns site (item i rest) = keeps_then leads (item_keeps mesh turns site i) (λ done. main_keeps mesh turns (after_item site i) rest)
 
 -- TURNS never rise
 abbrev pub Fewer : State → State → Type 0
@@ -144,7 +144,7 @@ fewer_kept =
       print = λ n s. omega arith;
       scope = λ before s r. r;
       turn = λ n s e. omega (arith, e);
-      number = λ mesh names e s. (keeps_number_in turns_kept mesh names e (λ a t. tt {0})).kept (in_main s);
-      truth = λ mesh names e s. (keeps_truth_in turns_kept mesh names e (λ a t. tt {0})).kept (in_main s);
+      number = λ mesh environment e s. (keeps_number_in turns_kept mesh environment e (λ a t. tt {0})).kept (in_main s);
+      truth = λ mesh environment e s. (keeps_truth_in turns_kept mesh environment e (λ a t. tt {0})).kept (in_main s);
       over = λ mesh c turns s. omega (arith, each_stays (λ s. s.turns) (behind_iteration mesh c turns) (λ id s. refl) (numbers 0 (count mesh c.over)) s);
     }

@@ -21,8 +21,8 @@ use Rattle.liszt_tree.specs.Tree.{nowhere, Expression, Number, Field, Call, Towa
 use Rattle.liszt_tree.specs.Tree.{Statement, Var, Val, Assign, If, While, For, Body, body_of, no_statement, statement}
 use Rattle.liszt_tree.specs.Tree.{MainItem, MainField, MainVar, MainAssign, MainIf, MainWhile, MainFor, Print, Main, no_item, item}
 use Rattle.liszt_tree.specs.Trees.{name, number}
-use Rattle.phase_types.specs.Cases.{at, one, only}
-use Rattle.phase_types.specs.Names.{Comprehension, comprehension_of}
+use Rattle.phase_types.specs.Internal.Cases.{at, single_statement as one, single_item as only}
+use Rattle.phase_types.specs.Environments.{Comprehension, comprehension_of}
 use Rattle.kernel_eval.specs.States.{State, Act}
 use Rattle.seq_meaning.specs.Runs.{Progress, empty, phases_of}
 
@@ -283,7 +283,7 @@ acts_and_folds =
     (Chain level.Product (number 1) (link sign.Over (at 1 5) (difference (call Id c) (number 1)) no_links)) ∷ []))))))
 
 abbrev pub first_comprehension : Main → Comprehension
-first_comprehension program = unwrap_or (comprehension_of program 0) (record { names = []; name = []; over = Cell; body = no_statement })
+first_comprehension program = unwrap_or (comprehension_of program 0) (record { environment = []; name = []; over = Cell; body = no_statement })
 
 abbrev pub first_state : MeshLists → Main → State
 first_state mesh program = unwrap_or (option_map (λ phase. phase.1) (slice_get (phases_of mesh program 0) 0)) (empty 0)

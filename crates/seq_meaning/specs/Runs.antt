@@ -9,7 +9,7 @@ use Rattle.liszt_base.specs.declared.answers.TrapKind.TheVariants.{Spent, Prints
 use Rattle.liszt_tree.specs.declared.tree.How.{How}
 use Rattle.liszt_tree.specs.Tree.{Expression, MainItem, MainField, MainVar, MainAssign, MainIf, MainWhile, MainFor, Print, Main, no_item, item}
 use Rattle.mesh_topology.specs.Elements.{count, numbers}
-use Rattle.phase_types.specs.Names.{Named, ScalarName, named, Comprehension, Here, start, next_field, next_scalar, next_comprehension, next_scope, comprehension_at, into_block, out_of_block, is_block, behind_item, behind_main}
+use Rattle.phase_types.specs.Environments.{Binding, ScalarName, binding_of, Comprehension, Site, start, next_field, next_scalar, next_comprehension, next_scope, comprehension_at, block_start, after_block, has_else_block, after_item, after_main}
 use Rattle.kernel_eval.specs.Outcomes.{Stop, Outcome, Doing, Done, gives, stops, changes, does_nothing, ◌>>=◌, ◌>>◌, either, each, Turns, loop}
 use Rattle.kernel_eval.specs.States.{Fields, State, scalar_value, with_scalar_value, Moment, in_main}
 use Rattle.kernel_eval.specs.Meaning.{traps, no_meaning, assigned, number_in, truth_in}
@@ -63,11 +63,11 @@ from_moment doing s = record { after = (doing (in_main s)).after.state; answer =
 abbrev pub in_program : {A : Type 0} → (Moment → Outcome Moment A) → Progress → Outcome Progress A
 in_program doing = on_state (from_moment doing)
 
-abbrev pub number_here : MeshLists → Here → Expression → Doing Progress ℤ
-number_here mesh here e = in_program (number_in mesh here.names e)
+abbrev pub number_at : MeshLists → Site → Expression → Doing Progress ℤ
+number_at mesh site e = in_program (number_in mesh site.environment e)
 
-abbrev pub truth_here : MeshLists → Here → Expression → Doing Progress Bool
-truth_here mesh here e = in_program (truth_in mesh here.names e)
+abbrev pub truth_at : MeshLists → Site → Expression → Doing Progress Bool
+truth_at mesh site e = in_program (truth_in mesh site.environment e)
 
 -- DECLARATIONS: a field with one value for each of its elements, and a scalar
 abbrev pub with_field : ℕ → ℕ → ℤ → State → State
@@ -84,7 +84,7 @@ abbrev pub scalar_set : How → ℤ → ℕ → Option ℤ → Doing Progress Do
 scalar_set how n number (Some old) = changes_state (with_scalar_value number (assigned how old n))
 scalar_set how n number None = in_program no_meaning
 
-abbrev pub name_set : How → ℤ → Option Named → Doing Progress Done
+abbrev pub name_set : How → ℤ → Option Binding → Doing Progress Done
 name_set how n (Some (ScalarName number)) = λ p. scalar_set how n number (scalar_value p.state number) p
 name_set how n _ = in_program no_meaning
 
@@ -110,27 +110,27 @@ program_turns = record { left = λ p. p.state.turns; leave = λ n p. record p { 
 
 -- ITEMS and the main program, each iteration of a comprehension with so many turns
 abbrev mutual
-  pub item_meaning : MeshLists → ℕ → Here → MainItem → Doing Progress Done
-  item_meaning mesh turns here (MainField place name at kind init) =
-      number_here mesh here init >>= λ n.
-      changes_state (with_field (next_field here) (count mesh kind) n) >> meets (FieldDeclared (next_field here) n)
-  item_meaning mesh turns here (MainVar place name at init) = number_here mesh here init >>= λ n. changes_state (with_scalar (next_scalar here) n)
-  item_meaning mesh turns here (MainAssign place name how value) = number_here mesh here value >>= λ n. name_set how n (named here.names name)
-  item_meaning mesh turns here (MainIf place test first second has_else) =
-      let behind_first : Here = out_of_block here (behind_main (into_block here) first) in
-      truth_here mesh here test >>= λ b. either b
-      (in_scope (next_scope here) (main_meaning mesh turns (into_block here) first))
-      (either (is_block second has_else) (in_scope (next_scope behind_first) (main_meaning mesh turns (into_block behind_first) second)) does_nothing)
-  item_meaning mesh turns here (MainWhile place test body) =
-      loop program_turns (in_program (traps Spent place)) (truth_here mesh here test)
-      (in_scope (next_scope here) (main_meaning mesh turns (into_block here) body))
-  item_meaning mesh turns here (MainFor place name at over body) =
-      meets (ComprehensionMet (next_comprehension here)) >> on_state (all_or_nothing (comprehension mesh (comprehension_at here name over body) turns))
-  item_meaning mesh turns here (Print place value) = number_here mesh here value >>= λ n. printed place n
+  pub item_meaning : MeshLists → ℕ → Site → MainItem → Doing Progress Done
+  item_meaning mesh turns site (MainField place name at kind init) =
+      number_at mesh site init >>= λ n.
+      changes_state (with_field (next_field site) (count mesh kind) n) >> meets (FieldDeclared (next_field site) n)
+  item_meaning mesh turns site (MainVar place name at init) = number_at mesh site init >>= λ n. changes_state (with_scalar (next_scalar site) n)
+  item_meaning mesh turns site (MainAssign place name how value) = number_at mesh site value >>= λ n. name_set how n (binding_of site.environment name)
+  item_meaning mesh turns site (MainIf place test first second has_else) =
+      let after_first : Site = after_block site (after_main (block_start site) first) in
+      truth_at mesh site test >>= λ b. either b
+      (in_scope (next_scope site) (main_meaning mesh turns (block_start site) first))
+      (either (has_else_block second has_else) (in_scope (next_scope after_first) (main_meaning mesh turns (block_start after_first) second)) does_nothing)
+  item_meaning mesh turns site (MainWhile place test body) =
+      loop program_turns (in_program (traps Spent place)) (truth_at mesh site test)
+      (in_scope (next_scope site) (main_meaning mesh turns (block_start site) body))
+  item_meaning mesh turns site (MainFor place name at over body) =
+      meets (ComprehensionMet (next_comprehension site)) >> on_state (all_or_nothing (comprehension mesh (comprehension_at site name over body) turns))
+  item_meaning mesh turns site (Print place value) = number_at mesh site value >>= λ n. printed place n
 
-  pub main_meaning : MeshLists → ℕ → Here → Main → Doing Progress Done
-  main_meaning mesh turns here no_item = does_nothing
-  main_meaning mesh turns here (item i more) = item_meaning mesh turns here i >> main_meaning mesh turns (behind_item here i) more
+  pub main_meaning : MeshLists → ℕ → Site → Main → Doing Progress Done
+  main_meaning mesh turns site no_item = does_nothing
+  main_meaning mesh turns site (item i rest) = item_meaning mesh turns site i >> main_meaning mesh turns (after_item site i) rest
 
 -- A RUN, with so many turns for the main program and for each iteration, from the empty state: scope 0 is opened first and never
 -- closed.

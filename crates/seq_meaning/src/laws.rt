@@ -8,12 +8,12 @@ ghost use Rattle.liszt_base.specs.declared.answers.Place.{Place};
 ghost use Rattle.liszt_base.specs.declared.answers.TrapKind.TheVariants.{Spent};
 ghost use Rattle.liszt_tree.specs.Tree.{Expression, Main, MainWhile};
 ghost use Rattle.kernel_eval.specs.Meaning.{traps};
-ghost use Rattle.phase_types.specs.Names.{Comprehension, Here, into_block, next_scope};
+ghost use Rattle.phase_types.specs.Environments.{Comprehension, Site, block_start, next_scope};
 ghost use Rattle.phase_types.specs.Typed.{ComprehensionFits, IsTyped};
 ghost use Rattle.phase_types.specs.Walk.{OfField, mode_in};
 ghost use Rattle.kernel_eval.specs.Kept.{ChangesNothing, field_values, loop_once};
 ghost use Rattle.kernel_eval.specs.States.{State};
-ghost use Rattle.seq_meaning.specs.Runs.{Progress, comprehension, in_program, in_scope, item_meaning, main_meaning, program_turns, run_end, truth_here};
+ghost use Rattle.seq_meaning.specs.Runs.{Progress, comprehension, in_program, in_scope, item_meaning, main_meaning, program_turns, run_end, truth_at};
 
 /// A comprehension changes no field that it doesn't write or reduce, and takes none of the main program's turns.
 pub fn comprehensions_keep_the_rest()
@@ -25,13 +25,13 @@ pub fn comprehensions_keep_the_rest()
 /// The turns of the main program never rise, and its `while` is its test, and where that is true a turn, its block, and then the same `while` again;
 /// where no turn is left it traps. So turns alone bound it.
 pub fn main_loops_go_on()
-    ensures turns { (mesh : MeshLists) (turns : ℕ) (here : Here) (program : Main) (p : Progress)
-        → (main_meaning mesh turns here program p).after.state.turns ≤ p.state.turns }
-    ensures once_more { (mesh : MeshLists) (turns : ℕ) (here : Here) (place : Place) (test : Expression) (body : Main) (p : Progress)
-        → item_meaning mesh turns here (MainWhile place test body) p
-        ≡ loop_once program_turns (in_program (traps Spent place)) (truth_here mesh here test)
-        (in_scope (next_scope here) (main_meaning mesh turns (into_block here) body))
-        (item_meaning mesh turns here (MainWhile place test body)) p }
+    ensures turns { (mesh : MeshLists) (turns : ℕ) (site : Site) (program : Main) (p : Progress)
+        → (main_meaning mesh turns site program p).after.state.turns ≤ p.state.turns }
+    ensures once_more { (mesh : MeshLists) (turns : ℕ) (site : Site) (place : Place) (test : Expression) (body : Main) (p : Progress)
+        → item_meaning mesh turns site (MainWhile place test body) p
+        ≡ loop_once program_turns (in_program (traps Spent place)) (truth_at mesh site test)
+        (in_scope (next_scope site) (main_meaning mesh turns (block_start site) body))
+        (item_meaning mesh turns site (MainWhile place test body)) p }
 {}
 
 /// A typed program has a meaning: its run ends, done or by a trap.

@@ -12,13 +12,13 @@ use Rattle.text_scan.specs.declared.faults.NumberFault.{NumberFault}
 use Rattle.tet_reader.specs.declared.words.Word.TheVariants.{Real, Corner}
 use Rattle.tet_reader.specs.Tests.{first, row_tests}
 use Rattle.tet_reader.specs.Headers.{number_at}
-use Rattle.tet_reader.specs.Kinds.{number_or_zero, number_read, IsCorner, corner_of, region_of}
+use Rattle.tet_reader.specs.Internal.RowKinds.{value_or_zero, word_number, IsCorner, corner_of, region_of}
 use Rattle.tet_reader.specs.Points.{IsCellRow, Spell, first_or_zero}
-use Rattle.tet_reader.specs.Faults.{size_of, cell_words, row_corners}
-use Rattle.tet_reader.proofs.Tests.{Passes, zip_append, append_zip, number_takes, number_again, real_takes, real_again}
-use Rattle.tet_reader.proofs.Tests.{corner_takes, corner_again}
-use Rattle.tet_reader.proofs.Tests.{each_none, row_takes}
-use Rattle.tet_reader.proofs.Spelling.{spelled_numbers, map_zip_append, same_parts, spell_length, one_spelling, spell_takes, spell_again}
+use Rattle.tet_reader.specs.Faults.{magnitude_or_zero, cell_words, row_corners}
+use Rattle.tet_reader.proofs.Tests.{Passes, zip_append, append_zip, number_spelled, number_passes, real_spelled, real_passes}
+use Rattle.tet_reader.proofs.Tests.{corner_spelled, corner_passes}
+use Rattle.tet_reader.proofs.Tests.{each_none, row_spelled}
+use Rattle.tet_reader.proofs.SpellingLemmas.{spelled_numbers, map_zip_append, same_parts, spell_length, one_spelling, spell_read, spell_passes}
 
 -- the words spell the numbers of these places
 abbrev pub SpellPlaces : ℕ → List (List ℕ) → List ℕ → Type 0
@@ -31,7 +31,7 @@ places_length base words places e =
 
 -- words that are read as numbers of places, their sizes less the base
 sizes_are : (read : List ℕ → Result ℤ NumberFault) (base : ℕ) (words : List (List ℕ)) (places : List ℕ)
-    → Spell read words (map (λ v. pos (base + v)) places) → map (λ word. size_of (read word) - base) words ≡ places
+    → Spell read words (map (λ v. pos (base + v)) places) → map (λ word. magnitude_or_zero (read word) - base) words ≡ places
 sizes_are read base [] [] e = refl
 sizes_are read base [] (v ∷ places) e = cc
 sizes_are read base (word ∷ words) [] e = cc
@@ -39,7 +39,7 @@ sizes_are read base (word ∷ words) (v ∷ places) e =
     let one : read word ≡ Ok (pos (base + v)) = cc in
     let more : Spell read words (map (λ v. pos (base + v)) places) = cc in
     let size : base + v - base ≡ v = omega arith in
-    let first : size_of (read word) - base ≡ v = ap (λ r. size_of r - base) one ∙ size in
+    let first : magnitude_or_zero (read word) - base ≡ v = ap (λ r. magnitude_or_zero r - base) one ∙ size in
     cc (first, sizes_are read base words places more)
 
 -- the corners that the tests take from a row are those that it spells
@@ -48,7 +48,7 @@ pub corners_are : (base : ℕ) (number_word : List ℕ) (corner_words attribute_
     → row_corners base (number_word ∷ (corner_words ++ attribute_words)) ≡ places
 corners_are base number_word corner_words attribute_words places e l =
     let four = take_at corner_words attribute_words 4 (places_length base corner_words places e ∙ l) in
-    ap (map (λ word. size_of (whole_of word) - base)) four ∙ sizes_are whole_of base corner_words places e
+    ap (map (λ word. magnitude_or_zero (whole_of word) - base)) four ∙ sizes_are whole_of base corner_words places e
 
 -- they are its cell's
 pub row_corners_are : (attributes points base number : ℕ) (words : List (List ℕ)) (cell : RawCell)
@@ -82,39 +82,39 @@ one_cell attributes points base k l words c d h i =
     same_cell c.corners d.corners c.region d.region corners (h.region_is ∙ (ap first_or_zero numbers ∙ sym i.region_is))
 
 -- so many words that pass as corners spell so many places of points, and such words pass
-places_take : (base points n : ℕ) (words : List (List ℕ)) → AllZip Passes (replicate n (Corner base points)) words
+places_spelled : (base points n : ℕ) (words : List (List ℕ)) → AllZip Passes (replicate n (Corner base points)) words
     → (places : List ℕ) × SpellPlaces base words places × (length places ≡ n) × (list_all (λ v. nat_lt v points) places ≡ true)
-places_take base points zero [] h = ([], refl, refl, refl)
-places_take base points zero (word ∷ words) h = absurd h
-places_take base points (suc n) [] h = absurd h
-places_take base points (suc n) (word ∷ words) h =
-    let one = corner_takes base points (whole_of word) h.0 in
-    let more = places_take base points n words h.1 in
+places_spelled base points zero [] h = ([], refl, refl, refl)
+places_spelled base points zero (word ∷ words) h = absurd h
+places_spelled base points (suc n) [] h = absurd h
+places_spelled base points (suc n) (word ∷ words) h =
+    let one = corner_spelled base points (whole_of word) h.0 in
+    let more = places_spelled base points n words h.1 in
     (one.0 ∷ more.0, cc (one.1, more.1), ap suc more.2, rw one.2 more.3)
 
-places_again : (base points n : ℕ) (words : List (List ℕ)) (places : List ℕ) → SpellPlaces base words places → length places ≡ n
+places_passes : (base points n : ℕ) (words : List (List ℕ)) (places : List ℕ) → SpellPlaces base words places → length places ≡ n
     → list_all (λ v. nat_lt v points) places ≡ true
     → AllZip Passes (replicate n (Corner base points)) words
-places_again base points zero [] [] e l h = tt
-places_again base points (suc n) [] [] e l h = absurd (omega arith)
-places_again base points n [] (v ∷ places) e l h = cc
-places_again base points n (word ∷ words) [] e l h = cc
-places_again base points zero (word ∷ words) (v ∷ places) e l h = absurd (omega arith)
-places_again base points (suc n) (word ∷ words) (v ∷ places) e l h =
+places_passes base points zero [] [] e l h = tt
+places_passes base points (suc n) [] [] e l h = absurd (omega arith)
+places_passes base points n [] (v ∷ places) e l h = cc
+places_passes base points n (word ∷ words) [] e l h = cc
+places_passes base points zero (word ∷ words) (v ∷ places) e l h = absurd (omega arith)
+places_passes base points (suc n) (word ∷ words) (v ∷ places) e l h =
     let one : whole_of word ≡ Ok (pos (base + v)) = cc in
     let more : SpellPlaces base words places = cc in
     let tests = and_parts (nat_lt v points) (list_all (λ v. nat_lt v points) places) h in
-    (corner_again base points v (whole_of word) one tests.0, places_again base points n words places more (omega arith) tests.1)
+    (corner_passes base points v (whole_of word) one tests.0, places_passes base points n words places more (omega arith) tests.1)
 
 -- words that pass, with different corners, are a cell's row
-pub cell_takes : (attributes points base number : ℕ) (words : List (List ℕ))
+pub cell_spelled : (attributes points base number : ℕ) (words : List (List ℕ))
     → AllZip Passes (cell_words attributes points base number) words → are_different (row_corners base words) ≡ true
     → (cell : RawCell) × IsCellRow attributes points base number words cell
-cell_takes attributes points base number [] h different = absurd h
-cell_takes attributes points base number (word ∷ words) h different =
+cell_spelled attributes points base number [] h different = absurd h
+cell_spelled attributes points base number (word ∷ words) h different =
     let c = append_zip Passes (replicate 4 (Corner base points)) (replicate attributes Real) words h.1 in
-    let corners = places_take base points 4 c.0 c.3 in
-    let attributes' = spell_takes Real millionths_of (λ w e. real_takes (millionths_of w) e) attributes c.1 c.4 in
+    let corners = places_spelled base points 4 c.0 c.3 in
+    let attributes' = spell_read Real millionths_of (λ w e. real_spelled (millionths_of w) e) attributes c.1 c.4 in
     let words_are : word ∷ words ≡ word ∷ (c.0 ++ c.1) = ap (λ l. word ∷ l) c.2 in
     let same : row_corners base (word ∷ words) ≡ corners.0 =
     ap (row_corners base) words_are ∙ corners_are base word c.0 c.1 corners.0 corners.1 corners.2 in
@@ -126,7 +126,7 @@ cell_takes attributes points base number (word ∷ words) h different =
         attribute_words = c.1;
         attribute_numbers = attributes'.0;
         words_are = words_are;
-        number_is = number_takes number (whole_of word) h.0;
+        number_is = number_spelled number (whole_of word) h.0;
         corners_are = corners.1;
         corners_fit = (corners.2, different', corners.3);
         attributes_are = attributes'.1;
@@ -136,16 +136,16 @@ cell_takes attributes points base number (word ∷ words) h different =
     )
 
 -- a cell's row passes, and its corners are different
-pub cell_again : (attributes points base number : ℕ) (words : List (List ℕ)) (cell : RawCell)
+pub cell_passes : (attributes points base number : ℕ) (words : List (List ℕ)) (cell : RawCell)
     → IsCellRow attributes points base number words cell
     → AllZip Passes (cell_words attributes points base number) words × (are_different (row_corners base words) ≡ true)
-cell_again attributes points base number words cell h =
-    let corners = places_again base points 4 h.corner_words cell.corners h.corners_are h.corners_fit.0 h.corners_fit.2 in
-    let attributes' = spell_again Real millionths_of (λ w z e. real_again z (millionths_of w) e) attributes h.attribute_words
+cell_passes attributes points base number words cell h =
+    let corners = places_passes base points 4 h.corner_words cell.corners h.corners_are h.corners_fit.0 h.corners_fit.2 in
+    let attributes' = spell_passes Real millionths_of (λ w z e. real_passes z (millionths_of w) e) attributes h.attribute_words
     h.attribute_numbers h.attributes_are h.attributes_count in
     let all = zip_append Passes (replicate 4 (Corner base points)) (replicate attributes Real) h.corner_words h.attribute_words corners
     attributes' in
-    let number' = number_again number (whole_of h.number_word) h.number_is in
+    let number' = number_passes number (whole_of h.number_word) h.number_is in
     let passes =
     subst (λ (l : List (List ℕ)). AllZip Passes (cell_words attributes points base number) l) (sym h.words_are) (number', all) in
     (passes, ap are_different (row_corners_are attributes points base number words cell h) ∙ h.corners_fit.1)
@@ -160,7 +160,7 @@ cell_number attributes points base number words cell h =
 
 -- the numbers of so many corners
 places_numbers : (base points n : ℕ) (words : List (List ℕ)) (places : List ℕ) → SpellPlaces base words places → length places ≡ n
-    → map number_read (zip (replicate n (Corner base points)) words) ≡ map (λ v. pos (base + v)) places
+    → map word_number (zip (replicate n (Corner base points)) words) ≡ map (λ v. pos (base + v)) places
 places_numbers base points n words places e l =
     spelled_numbers (Corner base points) whole_of (λ w. refl) n words (map (λ v. pos (base + v)) places) e (places_length base words places e ∙ l)
 
@@ -177,28 +177,28 @@ pub record Holds (attributes points base number : ℕ) (words : List (List ℕ))
 
 pub holds : (count place attributes points base number : ℕ) (words : List (List ℕ)) (numbers : List ℤ)
     → first (row_tests count place (cell_words attributes points base number) words) ≡ None
-    → numbers ≡ map number_read (zip (cell_words attributes points base number) words) → Holds attributes points base number words numbers
+    → numbers ≡ map word_number (zip (cell_words attributes points base number) words) → Holds attributes points base number words numbers
 holds count place attributes points base number words numbers pass are =
-    let wanted = cell_words attributes points base number in
-    let tests = each_none (row_tests count place wanted words) pass in
-    go words are (row_takes count place wanted words tests).1
+    let expected = cell_words attributes points base number in
+    let tests = each_none (row_tests count place expected words) pass in
+    go words are (row_spelled count place expected words tests).1
   where
-    go : (words : List (List ℕ)) → numbers ≡ map number_read (zip (cell_words attributes points base number) words)
+    go : (words : List (List ℕ)) → numbers ≡ map word_number (zip (cell_words attributes points base number) words)
         → AllZip Passes (cell_words attributes points base number) words → Holds attributes points base number words numbers
     go [] are h = absurd h
     go (word ∷ words) are h =
         let c = append_zip Passes (replicate 4 (Corner base points)) (replicate attributes Real) words h.1 in
-        let corners = places_take base points 4 c.0 c.3 in
-        let attributes' = spell_takes Real millionths_of (λ w e. real_takes (millionths_of w) e) attributes c.1 c.4 in
+        let corners = places_spelled base points 4 c.0 c.3 in
+        let attributes' = spell_read Real millionths_of (λ w e. real_spelled (millionths_of w) e) attributes c.1 c.4 in
         let words_are : word ∷ words ≡ word ∷ (c.0 ++ c.1) = ap (λ l. word ∷ l) c.2 in
-        let own = number_takes number (whole_of word) h.0 in
+        let own = number_spelled number (whole_of word) h.0 in
         let size : length (replicate 4 (Corner base points)) ≡ length c.0 = sym (places_length base c.0 corners.0 corners.1 ∙ corners.2) in
-        let parts = map_zip_append number_read (replicate 4 (Corner base points)) (replicate attributes Real) c.0 c.1 size in
+        let parts = map_zip_append word_number (replicate 4 (Corner base points)) (replicate attributes Real) c.0 c.1 size in
         let first_four = places_numbers base points 4 c.0 corners.0 corners.1 corners.2 in
         let others = spelled_numbers Real millionths_of (λ w. refl) attributes c.1 attributes'.0 attributes'.1 attributes'.2 in
-        let all : map number_read (zip (cell_words attributes points base number) (word ∷ (c.0 ++ c.1)))
+        let all : map word_number (zip (cell_words attributes points base number) (word ∷ (c.0 ++ c.1)))
         ≡ pos number ∷ (map (λ v. pos (base + v)) corners.0 ++ attributes'.0) =
-        cc (ap number_or_zero own, parts, first_four, others) in
+        cc (ap value_or_zero own, parts, first_four, others) in
         record {
           places = corners.0;
           values = attributes'.0;
@@ -206,7 +206,7 @@ holds count place attributes points base number words numbers pass are =
           inside = corners.3;
           corners = ap (row_corners base) words_are ∙ corners_are base word c.0 c.1 corners.0 corners.1 corners.2;
           values_count = sym (spell_length millionths_of c.1 attributes'.0 attributes'.1) ∙ attributes'.2;
-          numbers_are = are ∙ (ap (λ l. map number_read (zip (cell_words attributes points base number) l)) words_are ∙ all);
+          numbers_are = are ∙ (ap (λ l. map word_number (zip (cell_words attributes points base number) l)) words_are ∙ all);
           cell = λ different. (
             first_or_zero attributes'.0,
             refl,

@@ -12,27 +12,28 @@ use Rattle.liszt_base.specs.declared.answers.MeshWhat.TheVariants.{Missing}
 use Rattle.liszt_base.specs.declared.mesh.Point.{Point}
 use Rattle.liszt_base.specs.declared.mesh.RawCell.{RawCell}
 use Rattle.text_scan.specs.Rows.{Row, TextRows, text_rows}
-use Rattle.text_scan.specs.Tables.{row_at}
+use Rattle.text_scan.specs.Rows.{row_at}
 use Rattle.tet_reader.specs.Tests.{first}
 use Rattle.tet_reader.specs.Headers.{IsEleHeader, ele_numbers, number_at, ele_header_tests}
 use Rattle.tet_reader.specs.Points.{AreNumbered, IsCellRow, Points, Cells}
 use Rattle.tet_reader.specs.Faults.{fault_at, first_number, file_tests, ele_tests, ele_fault, whole_tests, node_fault, cells_fault, mesh_fault, first_mesh_fault}
-use Rattle.tet_reader.specs.Misfits.{first_misfit}
+use Rattle.tet_reader.specs.Internal.FirstMisfit.{first_misfit}
 use Rattle.liszt_base.specs.MeshLists.{MeshLists}
 use Rattle.liszt_base.specs.declared.mesh.PointTable.{PointTable}
 use Rattle.liszt_base.specs.declared.answers.Refused.{Refused}
 use Rattle.liszt_base.specs.declared.answers.Refused.TheVariants.{Fault, NoMemory}
-use Rattle.tet_reader.specs.Answers.{HeadsEle, SpellMesh, Reads, SpelledBy}
+use Rattle.tet_reader.specs.Answers.{SpellMesh, Reads, SpelledBy}
+use Rattle.tet_reader.specs.Internal.RowReading.{HeadsEle}
 use Rattle.tet_reader.specs.declared.headers.EleHeader.{EleHeader}
 use Rattle.tet_reader.specs.declared.misfit.Misfit.{Misfit}
-use Rattle.tet_reader.proofs.HeaderTests.{ele_header_again, ele_counts}
-use Rattle.tet_reader.proofs.Lists.{cell_tests, cell_kind, ele_takes, ele_again, one_cell_list}
-use Rattle.tet_reader.proofs.NodeReading.{behind}
-use Rattle.tet_reader.proofs.RowLists.{AllPass, rows_within, rows_again, numbered_length, first_number_fits}
-use Rattle.tet_reader.proofs.RowSteps.{row_fault, missing_fault}
+use Rattle.tet_reader.proofs.HeaderTests.{ele_header_passes, ele_counts}
+use Rattle.tet_reader.proofs.Lists.{cell_tests, cell_kind, ele_spelled, ele_passes, one_cell_list}
+use Rattle.tet_reader.proofs.NodeReading.{row_after_header}
+use Rattle.tet_reader.proofs.RowLists.{AllPass, rows_within, rows_passes, numbered_length, first_number_fits}
+use Rattle.tet_reader.proofs.RowReadingLemmas.{row_fault, missing_fault}
 use Rattle.tet_reader.proofs.Tests.{each_none, first_none}
-use Rattle.tet_reader.proofs.WholeFault.{misfit_fault, first_whole_fault}
-use Rattle.tet_reader.proofs.WholeMesh.{CellCorners, cells_corners, whole_takes, whole_again, same_faults}
+use Rattle.tet_reader.proofs.WholeFaultLemmas.{misfit_fault, first_whole_fault}
+use Rattle.tet_reader.proofs.WholeMeshLemmas.{CellCorners, cells_corners, whole_spelled, whole_passes, same_faults}
 
 -- the tests of the file are those of the header's counts
 ele_same : (points base last : ℕ) (header : Row) (others : List Row) (h : EleHeader) (own : ℕ) → IsEleHeader header.words h.cells h.attributes
@@ -58,10 +59,10 @@ pub ele_row_fault : (points base last : ℕ) (rows : List Row) (h : EleHeader) (
     → line ≡ (row_at rows (place + 1)).line → found ≡ fault_at Ele (pos h.cells) line what → first (ele_tests points base last rows) ≡ Some found
 ele_row_fault points base last [] h own place what line found heads own_is lt pass wrong line_is e = absurd (omega arith)
 ele_row_fault points base last (header ∷ others) h own place what line found heads own_is lt pass wrong line_is e =
-    let row = behind header others place in
+    let row = row_after_header header others place in
     let tests = cell_tests h.cells h.attributes points base own in
     let wrong' : first (tests place (row_at others place).words) ≡ Some what = ap (λ r. first (tests place r.words)) (sym row) ∙ wrong in
-    let head = ele_header_again header.words h.cells h.attributes heads.1 in
+    let head = ele_header_passes header.words h.cells h.attributes heads.1 in
     let line_is' : line ≡ (row_at others place).line = line_is ∙ ap (λ r. r.line) row in
     ele_same points base last header others h own heads.1 own_is
     ∙ (row_fault Ele (pos h.cells) (ele_header_tests header.words) tests last header others place what head lt pass wrong'
@@ -80,8 +81,8 @@ pub ele_missing : (points base last : ℕ) (rows : List Row) (h : EleHeader) (ow
 ele_missing points base last [] h own cells found heads own_is each few e = absurd (omega (arith, heads.0))
 ele_missing points base last (header ∷ others) h own cells found heads own_is each few e =
     let count = numbered_length (IsCellRow h.attributes points base) own others cells each in
-    let head = ele_header_again header.words h.cells h.attributes heads.1 in
-    let pass = rows_again (cell_kind h.cells h.attributes points base own) others cells 0 own (omega arith) (omega (arith, count)) each in
+    let head = ele_header_passes header.words h.cells h.attributes heads.1 in
+    let pass = rows_passes (cell_kind h.cells h.attributes points base own) others cells 0 own (omega arith) (omega (arith, count)) each in
     ele_same points base last header others h own heads.1 own_is
     ∙ (missing_fault Ele (pos h.cells) (ele_header_tests header.words) (cell_tests h.cells h.attributes points base own) last header others head pass
     (omega (arith, count)) ∙ ap Some (sym e))
@@ -142,7 +143,7 @@ pub misfit_line : (rows : List Row) (m : Misfit) (line : ℕ) (found : MeshFault
     → m.place + 1 < length rows → found ≡ fault_at Ele (pos 0) line m.what → misfit_fault (drop 1 rows) m ≡ found
 misfit_line [] m line found some line_is inside e = absurd (omega arith)
 misfit_line (header ∷ others) m line found some line_is inside e =
-    let line_is' : line ≡ (row_at others m.place).line = line_is ∙ ap (λ r. r.line) (behind header others m.place) in
+    let line_is' : line ≡ (row_at others m.place).line = line_is ∙ ap (λ r. r.line) (row_after_header header others m.place) in
     let none : Row = record { line = 0; words = [] } in
     let at : slice_index (map (λ row. row.line) others) m.place ≡ line =
     get_or-map (λ (row : Row). row.line) others m.place none 0 (omega arith) ∙ sym line_is' in
@@ -156,7 +157,7 @@ mesh_fits points base ele cells none h no_misfit =
     let corners = cells_corners ele.rows points base cells h in
     let fault = misfit_is points base ele cells none h ∙ ap (option_map (misfit_fault (drop 1 ele.rows))) (sym no_misfit) in
     let whole : first (whole_tests base (drop 1 ele.rows)) ≡ None = sym (ap (λ o. first (o ∷ whole_tests base (drop 1 ele.rows))) none) ∙ fault in
-    let together = whole_takes base (drop 1 ele.rows) (each_none (whole_tests base (drop 1 ele.rows)) whole) in
+    let together = whole_spelled base (drop 1 ele.rows) (each_none (whole_tests base (drop 1 ele.rows)) whole) in
     (fault, record { each = corners.1; together = subst (λ l. FitTogether l) corners.0 together })
 
 -- the mesh of the points and the cells is the one that is spelled
@@ -191,22 +192,22 @@ mesh_read node_bytes ele_bytes node ele table result p q none points read =
     go (Err NoMemory) e h = tt
 
 -- Over points, an ele file has no fault exactly where it spells a mesh.
-pub mesh_takes_over : (table : PointTable) (ele : TextRows) → cells_fault (length table.list) table.base ele ≡ None
+pub mesh_spelled_over : (table : PointTable) (ele : TextRows) → cells_fault (length table.list) table.base ele ≡ None
     → (mesh : MeshLists) × SpellMesh table ele mesh
-mesh_takes_over table ele e =
+mesh_spelled_over table ele e =
     let all = each_none (ele_fault (length table.list) table.base ele ∷ whole_tests table.base (drop 1 ele.rows)) e in
-    let cells = ele_takes table.list table.base ele.last_line ele.rows all.0 in
+    let cells = ele_spelled table.list table.base ele.last_line ele.rows all.0 in
     let corners = cells_corners ele.rows table.list table.base cells.0 cells.1 in
-    let together = whole_takes table.base (drop 1 ele.rows) all.1 in
+    let together = whole_spelled table.base (drop 1 ele.rows) all.1 in
     let mesh : MeshLists = record { points = table.list; cells = cells.0; base = table.base } in
     (mesh, made_mesh table ele cells.0 mesh refl cells.1 (record { each = corners.1; together = subst (λ l. FitTogether l) corners.0 together }))
 
-pub mesh_again_over : (table : PointTable) (ele : TextRows) (mesh : MeshLists) → SpellMesh table ele mesh
+pub mesh_passes_over : (table : PointTable) (ele : TextRows) (mesh : MeshLists) → SpellMesh table ele mesh
     → cells_fault (length table.list) table.base ele ≡ None
-mesh_again_over table ele mesh s =
+mesh_passes_over table ele mesh s =
     let corners = cells_corners ele.rows table.list table.base mesh.cells s.cells in
-    let whole = whole_again table.base (drop 1 ele.rows) (subst (λ l. FitTogether l) (sym corners.0) s.fits.together) in
-    let none = ele_again table.list table.base ele.last_line ele.rows mesh.cells s.cells in
+    let whole = whole_passes table.base (drop 1 ele.rows) (subst (λ l. FitTogether l) (sym corners.0) s.fits.together) in
+    let none = ele_passes table.list table.base ele.last_line ele.rows mesh.cells s.cells in
     first_none (ele_fault (length table.list) table.base ele ∷ whole_tests table.base (drop 1 ele.rows)) (none, whole)
 
 -- and one mesh

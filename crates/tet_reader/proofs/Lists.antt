@@ -15,11 +15,11 @@ use Rattle.tet_reader.specs.Headers.{node_numbers, ele_numbers, IsNodeHeader, Is
 use Rattle.tet_reader.specs.Points.{AreNumbered, IsPointRow, IsCellRow, Points, Cells}
 use Rattle.tet_reader.specs.Faults.{first_number, point_words, cell_words, row_corners, node_row_tests, node_tests, ele_row_tests}
 use Rattle.tet_reader.specs.Faults.{ele_tests}
-use Rattle.tet_reader.proofs.Tests.{unless_none, none_unless, FindNone, none_append, append_none, row_takes, row_again}
-use Rattle.tet_reader.proofs.HeaderTests.{node_header_takes, node_header_again, node_counts, ele_header_takes, ele_header_again, ele_counts}
-use Rattle.tet_reader.proofs.PointRows.{one_point, point_takes, point_again, point_number}
-use Rattle.tet_reader.proofs.CellRows.{one_cell, cell_takes, cell_again, cell_number}
-use Rattle.tet_reader.proofs.RowLists.{AllPass, file_takes, file_again, IsKind, rows_take, rows_within, rows_again, numbered_length}
+use Rattle.tet_reader.proofs.Tests.{unless_none, none_unless, FindNone, none_append, append_none, row_spelled, row_passes}
+use Rattle.tet_reader.proofs.HeaderTests.{node_header_spelled, node_header_passes, node_counts, ele_header_spelled, ele_header_passes, ele_counts}
+use Rattle.tet_reader.proofs.PointRows.{one_point, point_spelled, point_passes, point_number}
+use Rattle.tet_reader.proofs.CellRows.{one_cell, cell_spelled, cell_passes, cell_number}
+use Rattle.tet_reader.proofs.RowLists.{AllPass, file_spelled, file_passes, IsKind, rows_spelled, rows_within, rows_passes, numbered_length}
 use Rattle.tet_reader.proofs.RowLists.{one_items, first_number_fits, first_number_is}
 
 -- ---- one list
@@ -93,27 +93,27 @@ point_tests count attributes markers base place words = row_tests count place (p
 pub point_kind : (count attributes markers base : ℕ)
     → IsKind count base (point_tests count attributes markers base) (IsPointRow attributes markers)
 point_kind count attributes markers base =
-    let wanted : ℕ → List Word = λ place. point_words attributes markers (base + place) in
+    let expected : ℕ → List Word = λ place. point_words attributes markers (base + place) in
     record {
-      takes = λ place words h. let r = row_takes count place (wanted place) words h in
-          (r.0, point_takes attributes markers (base + place) words r.1);
-      again = λ place words item lt h. row_again count place (wanted place) words lt
-          (point_again attributes markers (base + place) words item h);
+      spelled_item = λ place words h. let r = row_spelled count place (expected place) words h in
+          (r.0, point_spelled attributes markers (base + place) words r.1);
+      item_passes = λ place words item lt h. row_passes count place (expected place) words lt
+          (point_passes attributes markers (base + place) words item h);
     }
 
 -- a node file with no fault spells some points
-pub node_takes : (last : ℕ) (rows : List Row) → first (node_tests last rows) ≡ None
+pub node_spelled : (last : ℕ) (rows : List Row) → first (node_tests last rows) ≡ None
     → (base : ℕ) × (points : List Point) × Points rows base points
-node_takes last [] e = cc
-node_takes last (header ∷ others) e =
+node_spelled last [] e = cc
+node_spelled last (header ∷ others) e =
     let numbers : List ℤ = node_numbers header.words in
     let base : ℕ = first_number others in
     let count : ℕ = nat_abs (number_at numbers 0) in
     let attributes : ℕ = nat_abs (number_at numbers 2) in
     let markers : ℕ = nat_abs (number_at numbers 3) in
-    let f = file_takes Node (number_at numbers 0) (node_header_tests header.words) (node_row_tests numbers base) last header others e in
+    let f = file_spelled Node (number_at numbers 0) (node_header_tests header.words) (node_row_tests numbers base) last header others e in
     let kind = point_kind count attributes markers base in
-    let items = rows_take kind others 0 base (omega arith) f.1 in
+    let items = rows_spelled kind others 0 base (omega arith) f.1 in
     let within = rows_within kind others 0 (omega arith) f.1 in
     let length_is = numbered_length (IsPointRow attributes markers) base others items.0 items.1 in
     let count_is : count ≡ length items.0 = omega (arith, f.2) in (
@@ -125,7 +125,7 @@ node_takes last (header ∷ others) e =
         attributes = attributes;
         markers = markers;
         rows_are = refl;
-        header_is = subst (λ (k : ℕ). IsNodeHeader header.words k attributes markers) count_is (node_header_takes header.words f.0);
+        header_is = subst (λ (k : ℕ). IsNodeHeader header.words k attributes markers) count_is (node_header_spelled header.words f.0);
         base_is = first_number_fits others;
         base_of_none = λ none. first_of_none others (sym length_is ∙ none);
         each = items.1;
@@ -133,11 +133,11 @@ node_takes last (header ∷ others) e =
     )
 
 -- the tests of a node file that spells points find nothing
-node_rows_again : (last : ℕ) (header : Row) (others : List Row) (base : ℕ) (points : List Point) (attributes markers : ℕ)
+node_rows_passes : (last : ℕ) (header : Row) (others : List Row) (base : ℕ) (points : List Point) (attributes markers : ℕ)
     → IsNodeHeader header.words (length points) attributes markers
     → first_number others ≡ base → AreNumbered (IsPointRow attributes markers) base others points
     → first (node_tests last (header ∷ others)) ≡ None
-node_rows_again last header others base points attributes markers is base_is each =
+node_rows_passes last header others base points attributes markers is base_is each =
     let numbers : List ℤ = node_numbers header.words in
     let counts = node_counts header.words (length points) attributes markers is in
     let one = subst (λ (k : ℕ). AreNumbered (IsPointRow k markers) base others points) (sym counts.1) each in
@@ -147,17 +147,17 @@ node_rows_again last header others base points attributes markers is base_is eac
     let kind = point_kind count (nat_abs (number_at numbers 2)) (nat_abs (number_at numbers 3)) (first_number others) in
     let number : base ≡ first_number others + 0 = omega (arith, base_is) in
     let within : 0 + length others ≤ count = omega (arith, counts.0) in
-    let pass = rows_again kind others points 0 base number within two in
-    let head = node_header_again header.words (length points) attributes markers is in
+    let pass = rows_passes kind others points 0 base number within two in
+    let head = node_header_passes header.words (length points) attributes markers is in
     let tests = node_row_tests numbers (first_number others) in
-    file_again Node (number_at numbers 0) (node_header_tests header.words) tests last header others head pass (omega (arith, counts.0))
+    file_passes Node (number_at numbers 0) (node_header_tests header.words) tests last header others head pass (omega (arith, counts.0))
 
-pub node_again : (last : ℕ) (rows : List Row) (base : ℕ) (points : List Point) → Points rows base points
+pub node_passes : (last : ℕ) (rows : List Row) (base : ℕ) (points : List Point) → Points rows base points
     → first (node_tests last rows) ≡ None
-node_again last rows base points h =
+node_passes last rows base points h =
     let base_is = point_first h.attributes h.markers base h.others points h.base_is h.base_of_none h.each in
     ap (λ (l : List Row). first (node_tests last l)) h.rows_are
-    ∙ node_rows_again last h.header h.others base points h.attributes h.markers h.header_is base_is h.each
+    ∙ node_rows_passes last h.header h.others base points h.attributes h.markers h.header_is base_is h.each
 
 -- the tests of a cell's row, by its place
 abbrev different_test : ℕ → List (List ℕ) → Option MeshWhat
@@ -170,34 +170,34 @@ cell_tests count attributes points base own place words =
 pub cell_kind : (count attributes points base own : ℕ)
     → IsKind count own (cell_tests count attributes points base own) (IsCellRow attributes points base)
 cell_kind count attributes points base own =
-    let wanted : ℕ → List Word = λ place. cell_words attributes points base (own + place) in
+    let expected : ℕ → List Word = λ place. cell_words attributes points base (own + place) in
     record {
-      takes = λ place words h.
-          let parts = append_none (row_tests count place (wanted place) words) (different_test base words ∷ []) h in
-          let r = row_takes count place (wanted place) words parts.0 in
+      spelled_item = λ place words h.
+          let parts = append_none (row_tests count place (expected place) words) (different_test base words ∷ []) h in
+          let r = row_spelled count place (expected place) words parts.0 in
           let different = unless_none (are_different (row_corners base words)) CornerTwice parts.1.0 in
-          (r.0, cell_takes attributes points base (own + place) words r.1 different);
-      again = λ place words item lt h.
-          let c = cell_again attributes points base (own + place) words item h in
-          let row = row_again count place (wanted place) words lt c.0 in
+          (r.0, cell_spelled attributes points base (own + place) words r.1 different);
+      item_passes = λ place words item lt h.
+          let c = cell_passes attributes points base (own + place) words item h in
+          let row = row_passes count place (expected place) words lt c.0 in
           let passes = none_unless (are_different (row_corners base words)) CornerTwice c.1 in
           let different : FindNone (different_test base words ∷ []) = (passes, tt) in
-          none_append (row_tests count place (wanted place) words) (different_test base words ∷ []) row different;
+          none_append (row_tests count place (expected place) words) (different_test base words ∷ []) row different;
     }
 
 -- an ele file over points with no fault spells some cells
-pub ele_takes : (points : List Point) (base last : ℕ) (rows : List Row) → first (ele_tests (length points) base last rows) ≡ None
+pub ele_spelled : (points : List Point) (base last : ℕ) (rows : List Row) → first (ele_tests (length points) base last rows) ≡ None
     → (cells : List RawCell) × Cells rows points base cells
-ele_takes points base last [] e = cc
-ele_takes points base last (header ∷ others) e =
+ele_spelled points base last [] e = cc
+ele_spelled points base last (header ∷ others) e =
     let numbers : List ℤ = ele_numbers header.words in
     let own : ℕ = first_number others in
     let count : ℕ = nat_abs (number_at numbers 0) in
     let attributes : ℕ = nat_abs (number_at numbers 2) in
     let tests = ele_row_tests (length points) base numbers own in
-    let f = file_takes Ele (number_at numbers 0) (ele_header_tests header.words) tests last header others e in
+    let f = file_spelled Ele (number_at numbers 0) (ele_header_tests header.words) tests last header others e in
     let kind = cell_kind count attributes (length points) base own in
-    let items = rows_take kind others 0 own (omega arith) f.1 in
+    let items = rows_spelled kind others 0 own (omega arith) f.1 in
     let within = rows_within kind others 0 (omega arith) f.1 in
     let length_is = numbered_length (IsCellRow attributes (length points) base) own others items.0 items.1 in
     let count_is : count ≡ length items.0 = omega (arith, f.2) in (
@@ -208,7 +208,7 @@ ele_takes points base last (header ∷ others) e =
         attributes = attributes;
         first = own;
         rows_are = refl;
-        header_is = subst (λ (k : ℕ). IsEleHeader header.words k attributes) count_is (ele_header_takes header.words f.0);
+        header_is = subst (λ (k : ℕ). IsEleHeader header.words k attributes) count_is (ele_header_spelled header.words f.0);
         first_is = first_number_fits others;
         each = items.1;
       },
@@ -223,14 +223,14 @@ cells_pass count attributes points base start (row ∷ rows) cells le within eac
     let own = first_number_is (IsCellRow attributes points base) (cell_number attributes points base) row rows start cells le each in
     let number : start ≡ first_number (row ∷ rows) + 0 = omega (arith, own) in
     let within' : 0 + length (row ∷ rows) ≤ count = omega arith in
-    rows_again (cell_kind count attributes points base (first_number (row ∷ rows))) (row ∷ rows) cells 0 start number within' each
+    rows_passes (cell_kind count attributes points base (first_number (row ∷ rows))) (row ∷ rows) cells 0 start number within' each
 
 -- the tests of an ele file that spells cells find nothing
-ele_rows_again : (points : List Point) (base last : ℕ) (header : Row) (others : List Row) (cells : List RawCell) (attributes start : ℕ)
+ele_rows_passes : (points : List Point) (base last : ℕ) (header : Row) (others : List Row) (cells : List RawCell) (attributes start : ℕ)
     → IsEleHeader header.words (length cells) attributes → start ≤ 1
     → AreNumbered (IsCellRow attributes (length points) base) start others cells
     → first (ele_tests (length points) base last (header ∷ others)) ≡ None
-ele_rows_again points base last header others cells attributes start is start_is each =
+ele_rows_passes points base last header others cells attributes start is start_is each =
     let numbers : List ℤ = ele_numbers header.words in
     let counts = ele_counts header.words (length cells) attributes is in
     let one = subst (λ (k : ℕ). AreNumbered (IsCellRow k (length points) base) start others cells) (sym counts.1) each in
@@ -238,12 +238,12 @@ ele_rows_again points base last header others cells attributes start is start_is
     let count : ℕ = nat_abs (number_at numbers 0) in
     let within : length others ≤ count = omega (arith, counts.0) in
     let pass = cells_pass count (nat_abs (number_at numbers 2)) (length points) base start others cells start_is within one in
-    let head = ele_header_again header.words (length cells) attributes is in
+    let head = ele_header_passes header.words (length cells) attributes is in
     let tests = ele_row_tests (length points) base numbers (first_number others) in
-    file_again Ele (number_at numbers 0) (ele_header_tests header.words) tests last header others head pass (omega (arith, counts.0))
+    file_passes Ele (number_at numbers 0) (ele_header_tests header.words) tests last header others head pass (omega (arith, counts.0))
 
-pub ele_again : (points : List Point) (base last : ℕ) (rows : List Row) (cells : List RawCell) → Cells rows points base cells
+pub ele_passes : (points : List Point) (base last : ℕ) (rows : List Row) (cells : List RawCell) → Cells rows points base cells
     → first (ele_tests (length points) base last rows) ≡ None
-ele_again points base last rows cells h =
+ele_passes points base last rows cells h =
     ap (λ (l : List Row). first (ele_tests (length points) base last l)) h.rows_are
-    ∙ ele_rows_again points base last h.header h.others cells h.attributes h.first h.header_is h.first_is h.each
+    ∙ ele_rows_passes points base last h.header h.others cells h.attributes h.first h.header_is h.first_is h.each

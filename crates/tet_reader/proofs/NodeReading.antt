@@ -7,25 +7,25 @@ use Rattle.liszt_base.specs.declared.answers.MeshWhat.{MeshWhat}
 use Rattle.liszt_base.specs.declared.answers.MeshWhat.TheVariants.{Missing}
 use Rattle.liszt_base.specs.declared.mesh.Point.{Point}
 use Rattle.text_scan.specs.Rows.{Row}
-use Rattle.text_scan.specs.Tables.{row_at}
+use Rattle.text_scan.specs.Rows.{row_at}
 use Rattle.tet_reader.specs.Tests.{first, row_tests}
 use Rattle.tet_reader.specs.Headers.{IsNodeHeader, node_numbers, number_at, node_header_tests}
 use Rattle.tet_reader.specs.Points.{AreNumbered, IsPointRow, Points}
 use Rattle.tet_reader.specs.Faults.{fault_at, first_number, point_words, file_tests, node_tests}
-use Rattle.tet_reader.specs.Answers.{HeadsNode}
+use Rattle.tet_reader.specs.Internal.RowReading.{HeadsNode}
 use Rattle.tet_reader.specs.declared.headers.NodeHeader.{NodeHeader}
-use Rattle.tet_reader.proofs.HeaderTests.{node_header_again, node_counts}
+use Rattle.tet_reader.proofs.HeaderTests.{node_header_passes, node_counts}
 use Rattle.tet_reader.proofs.Lists.{point_tests, point_kind, first_of_none}
-use Rattle.tet_reader.proofs.RowLists.{AllPass, rows_within, rows_again, numbered_length, first_number_fits}
-use Rattle.tet_reader.proofs.RowSteps.{row_fault, missing_fault}
+use Rattle.tet_reader.proofs.RowLists.{AllPass, rows_within, rows_passes, numbered_length, first_number_fits}
+use Rattle.tet_reader.proofs.RowReadingLemmas.{row_fault, missing_fault}
 
--- the row behind the header at a place
-pub behind : (header : Row) (others : List Row) (place : ℕ) → row_at (header ∷ others) (place + 1) ≡ row_at others place
-behind header others place = let at : place + 1 ≡ suc place = omega arith in ap (row_at (header ∷ others)) at
+-- the row after the header at a place
+pub row_after_header : (header : Row) (others : List Row) (place : ℕ) → row_at (header ∷ others) (place + 1) ≡ row_at others place
+row_after_header header others place = let at : place + 1 ≡ suc place = omega arith in ap (row_at (header ∷ others)) at
 
-pub behind_first : (rows : List Row) (place : ℕ) → 0 < length rows → row_at rows (place + 1) ≡ row_at (drop 1 rows) place
-behind_first [] place some = absurd (omega arith)
-behind_first (header ∷ others) place some = behind header others place
+pub after_first : (rows : List Row) (place : ℕ) → 0 < length rows → row_at rows (place + 1) ≡ row_at (drop 1 rows) place
+after_first [] place some = absurd (omega arith)
+after_first (header ∷ others) place some = row_after_header header others place
 
 -- the tests of the file are those of the header's counts
 node_same : (last : ℕ) (header : Row) (others : List Row) (h : NodeHeader) (base : ℕ) → IsNodeHeader header.words h.points h.attributes h.markers
@@ -54,10 +54,10 @@ pub node_row_fault : (last : ℕ) (rows : List Row) (h : NodeHeader) (base place
     → line ≡ (row_at rows (place + 1)).line → found ≡ fault_at Node (pos h.points) line what → first (node_tests last rows) ≡ Some found
 node_row_fault last [] h base place what line found heads base_is lt pass wrong line_is e = absurd (omega arith)
 node_row_fault last (header ∷ others) h base place what line found heads base_is lt pass wrong line_is e =
-    let row = behind header others place in
+    let row = row_after_header header others place in
     let tests = point_tests h.points h.attributes h.markers base in
     let wrong' : first (tests place (row_at others place).words) ≡ Some what = ap (λ r. first (tests place r.words)) (sym row) ∙ wrong in
-    let head = node_header_again header.words h.points h.attributes h.markers heads.1 in
+    let head = node_header_passes header.words h.points h.attributes h.markers heads.1 in
     let line_is' : line ≡ (row_at others place).line = line_is ∙ ap (λ r. r.line) row in
     node_same last header others h base heads.1 base_is
     ∙ (row_fault Node (pos h.points) (node_header_tests header.words) tests last header others place what head lt pass wrong'
@@ -75,9 +75,9 @@ pub node_missing : (last : ℕ) (rows : List Row) (h : NodeHeader) (base : ℕ) 
 node_missing last [] h base points found heads base_is each few e = absurd (omega (arith, heads.0))
 node_missing last (header ∷ others) h base points found heads base_is each few e =
     let count = numbered_length (IsPointRow h.attributes h.markers) base others points each in
-    let head = node_header_again header.words h.points h.attributes h.markers heads.1 in
+    let head = node_header_passes header.words h.points h.attributes h.markers heads.1 in
     let kind = point_kind h.points h.attributes h.markers base in
-    let pass = rows_again kind others points 0 base (omega arith) (omega (arith, count)) each in
+    let pass = rows_passes kind others points 0 base (omega arith) (omega (arith, count)) each in
     node_same last header others h base heads.1 base_is
     ∙ (missing_fault Node (pos h.points) (node_header_tests header.words) (point_tests h.points h.attributes h.markers base) last header others head pass
     (omega (arith, count)) ∙ ap Some (sym e))

@@ -10,14 +10,14 @@ use Rattle.tet_reader.specs.declared.words.Word.{Word}
 use Rattle.tet_reader.specs.declared.words.Word.TheVariants.{Number, Real, Marker}
 use Rattle.tet_reader.specs.Tests.{first, row_tests}
 use Rattle.tet_reader.specs.Headers.{number_at}
-use Rattle.tet_reader.specs.Kinds.{number_or_zero, number_read, mark_of}
+use Rattle.tet_reader.specs.Internal.RowKinds.{value_or_zero, word_number, mark_of}
 use Rattle.tet_reader.specs.Points.{IsPointRow, first_or_zero}
 use Rattle.tet_reader.specs.Faults.{point_words}
-use Rattle.tet_reader.proofs.Tests.{Passes, zip_append, append_zip, number_takes, number_again, real_takes, real_again, marker_takes}
-use Rattle.tet_reader.proofs.Tests.{marker_again}
+use Rattle.tet_reader.proofs.Tests.{Passes, zip_append, append_zip, number_spelled, number_passes, real_spelled, real_passes, marker_spelled}
+use Rattle.tet_reader.proofs.Tests.{marker_passes}
 use Rattle.tet_reader.proofs.WordLists.{zip_size}
-use Rattle.tet_reader.proofs.Tests.{each_none, row_takes, zip_length}
-use Rattle.tet_reader.proofs.Spelling.{three_parts, same_parts, spell_length, one_spelling, spell_takes, spell_again}
+use Rattle.tet_reader.proofs.Tests.{each_none, row_spelled, zip_length}
+use Rattle.tet_reader.proofs.SpellingLemmas.{three_parts, same_parts, spell_length, one_spelling, spell_read, spell_passes}
 
 -- points are the same by their fields
 pub same_point : (x y z mark x' y' z' mark' : ℤ) → x ≡ x' → y ≡ y' → z ≡ z' → mark ≡ mark'
@@ -60,15 +60,15 @@ three_numbers (x ∷ y ∷ z ∷ []) e = (x, y, z, refl)
 three_numbers (x ∷ y ∷ z ∷ w ∷ numbers) e = absurd (omega arith)
 
 -- words that pass are a point's row
-pub point_takes : (attributes markers number : ℕ) (words : List (List ℕ)) → AllZip Passes (point_words attributes markers number) words
+pub point_spelled : (attributes markers number : ℕ) (words : List (List ℕ)) → AllZip Passes (point_words attributes markers number) words
     → (point : Point) × IsPointRow attributes markers number words point
-point_takes attributes markers number [] h = absurd h
-point_takes attributes markers number (word ∷ words) h =
+point_spelled attributes markers number [] h = absurd h
+point_spelled attributes markers number (word ∷ words) h =
     let c = append_zip Passes (replicate 3 Real) (replicate attributes Real ++ replicate markers Marker) words h.1 in
     let d = append_zip Passes (replicate attributes Real) (replicate markers Marker) c.1 c.4 in
-    let coordinates = spell_takes Real millionths_of (λ w e. real_takes (millionths_of w) e) 3 c.0 c.3 in
-    let attributes' = spell_takes Real millionths_of (λ w e. real_takes (millionths_of w) e) attributes d.0 d.3 in
-    let markers' = spell_takes Marker whole_of (λ w e. marker_takes (whole_of w) e) markers d.1 d.4 in
+    let coordinates = spell_read Real millionths_of (λ w e. real_spelled (millionths_of w) e) 3 c.0 c.3 in
+    let attributes' = spell_read Real millionths_of (λ w e. real_spelled (millionths_of w) e) attributes d.0 d.3 in
+    let markers' = spell_read Marker whole_of (λ w e. marker_spelled (whole_of w) e) markers d.1 d.4 in
     let xyz = three_numbers coordinates.0 (sym (spell_length millionths_of c.0 coordinates.0 coordinates.1) ∙ coordinates.2) in
     let point : Point = record { x = xyz.0; y = xyz.1; z = xyz.2; mark = first_or_zero markers'.0 } in
     let parts : words ≡ (c.0 ++ d.0) ++ d.1 = c.2 ∙ (ap (λ l. c.0 ++ l) d.2 ∙ sym (append_assoc c.0 d.0 d.1)) in (
@@ -81,7 +81,7 @@ point_takes attributes markers number (word ∷ words) h =
         attribute_numbers = attributes'.0;
         marker_numbers = markers'.0;
         words_are = ap (λ l. word ∷ l) parts;
-        number_is = number_takes number (whole_of word) h.0;
+        number_is = number_spelled number (whole_of word) h.0;
         coordinates_are = cc (coordinates.1, xyz.3);
         attributes_are = attributes'.1;
         markers_are = markers'.1;
@@ -92,15 +92,15 @@ point_takes attributes markers number (word ∷ words) h =
     )
 
 -- a point's row passes
-pub point_again : (attributes markers number : ℕ) (words : List (List ℕ)) (point : Point)
+pub point_passes : (attributes markers number : ℕ) (words : List (List ℕ)) (point : Point)
     → IsPointRow attributes markers number words point → AllZip Passes (point_words attributes markers number) words
-point_again attributes markers number words point h =
+point_passes attributes markers number words point h =
     let three = spell_length millionths_of h.coordinate_words (point.x ∷ point.y ∷ point.z ∷ []) h.coordinates_are in
-    let coordinates = spell_again Real millionths_of (λ w z e. real_again z (millionths_of w) e) 3 h.coordinate_words
+    let coordinates = spell_passes Real millionths_of (λ w z e. real_passes z (millionths_of w) e) 3 h.coordinate_words
     (point.x ∷ point.y ∷ point.z ∷ []) h.coordinates_are three in
-    let attributes' = spell_again Real millionths_of (λ w z e. real_again z (millionths_of w) e) attributes h.attribute_words
+    let attributes' = spell_passes Real millionths_of (λ w z e. real_passes z (millionths_of w) e) attributes h.attribute_words
     h.attribute_numbers h.attributes_are h.attributes_count in
-    let markers' = spell_again Marker whole_of (λ w z e. marker_again z (whole_of w) e) markers h.marker_words h.marker_numbers
+    let markers' = spell_passes Marker whole_of (λ w z e. marker_passes z (whole_of w) e) markers h.marker_words h.marker_numbers
     h.markers_are h.markers_count in
     let rest =
     zip_append Passes (replicate attributes Real) (replicate markers Marker) h.attribute_words h.marker_words attributes' markers' in
@@ -108,7 +108,7 @@ point_again attributes markers number words point h =
     (h.attribute_words ++ h.marker_words) coordinates rest in
     let parts : words ≡ h.number_word ∷ (h.coordinate_words ++ (h.attribute_words ++ h.marker_words)) =
     h.words_are ∙ ap (λ l. h.number_word ∷ l) (append_assoc h.coordinate_words h.attribute_words h.marker_words) in
-    let number' = number_again number (whole_of h.number_word) h.number_is in
+    let number' = number_passes number (whole_of h.number_word) h.number_is in
     subst (λ (l : List (List ℕ)). AllZip Passes (point_words attributes markers number) l) (sym parts) (number', all)
 
 -- the first word of a point's row is its number
@@ -121,18 +121,18 @@ point_number attributes markers number words point h =
 
 -- the numbers of a point's row: its own, x, y and z, the attributes and the markers
 point_numbers : (attributes markers number : ℕ) (words : List (List ℕ)) (point : Point) (h : IsPointRow attributes markers number words point)
-    → map number_read (zip (point_words attributes markers number) words)
+    → map word_number (zip (point_words attributes markers number) words)
     ≡ pos number ∷ point.x ∷ point.y ∷ point.z ∷ (h.attribute_numbers ++ h.marker_numbers)
 point_numbers attributes markers number words point h =
     let three = spell_length millionths_of h.coordinate_words (point.x ∷ point.y ∷ point.z ∷ []) h.coordinates_are in
     let parts : words ≡ h.number_word ∷ (h.coordinate_words ++ (h.attribute_words ++ h.marker_words)) =
     h.words_are ∙ ap (λ l. h.number_word ∷ l) (append_assoc h.coordinate_words h.attribute_words h.marker_words) in
-    let wanted : List Word = replicate 3 Real ++ (replicate attributes Real ++ replicate markers Marker) in
+    let expected : List Word = replicate 3 Real ++ (replicate attributes Real ++ replicate markers Marker) in
     let all = three_parts Real Real Marker millionths_of millionths_of whole_of (λ w. refl) (λ w. refl) (λ w. refl) 3 attributes markers
     h.coordinate_words h.attribute_words h.marker_words (point.x ∷ point.y ∷ point.z ∷ []) h.attribute_numbers h.marker_numbers
     h.coordinates_are h.attributes_are h.markers_are three h.attributes_count h.markers_count in
-    let own : number_or_zero (whole_of h.number_word) ≡ pos number = ap number_or_zero h.number_is in
-    ap (λ l. map number_read (zip (Number number ∷ wanted) l)) parts ∙ cc (own, all)
+    let own : value_or_zero (whole_of h.number_word) ≡ pos number = ap value_or_zero h.number_is in
+    ap (λ l. map word_number (zip (Number number ∷ expected) l)) parts ∙ cc (own, all)
 
 -- the mark among them
 mark_is : (attributes markers number : ℕ) (x y z : ℤ) (numbers marks : List ℤ) → length numbers ≡ attributes → length marks ≡ markers
@@ -150,12 +150,12 @@ mark_is attributes markers number x y z numbers (mark ∷ marks) l k =
 -- the row is that of the point of these numbers
 pub point_read : (count place attributes markers number : ℕ) (words : List (List ℕ)) (numbers : List ℤ)
     → first (row_tests count place (point_words attributes markers number) words) ≡ None
-    → numbers ≡ map number_read (zip (point_words attributes markers number) words)
+    → numbers ≡ map word_number (zip (point_words attributes markers number) words)
     → IsPointRow attributes markers number words
     (record { x = number_at numbers 1; y = number_at numbers 2; z = number_at numbers 3; mark = mark_of attributes markers numbers })
 point_read count place attributes markers number words numbers pass are =
     let tests = each_none (row_tests count place (point_words attributes markers number) words) pass in
-    let found = point_takes attributes markers number words (row_takes count place (point_words attributes markers number) words tests).1 in
+    let found = point_spelled attributes markers number words (row_spelled count place (point_words attributes markers number) words tests).1 in
     let point = found.0 in
     let h = found.1 in
     let all = are ∙ point_numbers attributes markers number words point h in
@@ -172,17 +172,17 @@ point_read count place attributes markers number words numbers pass are =
 -- how many numbers there are
 pub point_count : (count place attributes markers number : ℕ) (words : List (List ℕ)) (numbers : List ℤ)
     → first (row_tests count place (point_words attributes markers number) words) ≡ None
-    → numbers ≡ map number_read (zip (point_words attributes markers number) words) → length numbers ≡ 4 + attributes + markers
+    → numbers ≡ map word_number (zip (point_words attributes markers number) words) → length numbers ≡ 4 + attributes + markers
 point_count count place attributes markers number words numbers pass are =
-    let wanted = point_words attributes markers number in
-    let tests = each_none (row_tests count place wanted words) pass in
-    let same = zip_length Passes wanted words (row_takes count place wanted words tests).1 in
+    let expected = point_words attributes markers number in
+    let tests = each_none (row_tests count place expected words) pass in
+    let same = zip_length Passes expected words (row_spelled count place expected words tests).1 in
     let size = length-append (replicate attributes Real) (replicate markers Marker) in
     omega (
       arith,
       ap length are,
-      length-map (zip wanted words) number_read,
-      zip_size wanted words same,
+      length-map (zip expected words) word_number,
+      zip_size expected words same,
       same,
       size,
       length-replicate attributes Real,

@@ -27,13 +27,13 @@ map_none f None e = refl
 map_none f (Some x) e = cc
 
 -- a line's tests find no fault where each finds nothing
-line_takes : (file : MeshFile) (count : ℤ) (line : ℕ) (tests : List (Option MeshWhat)) → line_fault file count line tests ≡ None
+line_spelled : (file : MeshFile) (count : ℤ) (line : ℕ) (tests : List (Option MeshWhat)) → line_fault file count line tests ≡ None
     → FindNone tests
-line_takes file count line tests e = each_none tests (map_none (fault_at file count line) (first tests) e)
+line_spelled file count line tests e = each_none tests (map_none (fault_at file count line) (first tests) e)
 
-pub line_again : (file : MeshFile) (count : ℤ) (line : ℕ) (tests : List (Option MeshWhat)) → FindNone tests
+pub line_passes : (file : MeshFile) (count : ℤ) (line : ℕ) (tests : List (Option MeshWhat)) → FindNone tests
     → line_fault file count line tests ≡ None
-line_again file count line tests h = ap (option_map (fault_at file count line)) (first_none tests h)
+line_passes file count line tests h = ap (option_map (fault_at file count line)) (first_none tests h)
 
 -- what the tests of the rows find, by their lines
 abbrev pub row_faults : MeshFile → ℤ → (ℕ → List (List ℕ) → List (Option MeshWhat)) → ℕ → List Row → List (Option MeshFault)
@@ -44,61 +44,61 @@ rows_pass : (file : MeshFile) (count : ℤ) (tests : ℕ → List (List ℕ) →
     → FindNone (row_faults file count tests place rows) → AllPass tests place rows
 rows_pass file count tests place [] h = tt
 rows_pass file count tests place (row ∷ rows) h =
-    (line_takes file count row.line (tests place row.words) h.0, rows_pass file count tests (place + 1) rows h.1)
+    (line_spelled file count row.line (tests place row.words) h.0, rows_pass file count tests (place + 1) rows h.1)
 
 pub pass_rows : (file : MeshFile) (count : ℤ) (tests : ℕ → List (List ℕ) → List (Option MeshWhat)) (place : ℕ) (rows : List Row)
     → AllPass tests place rows → FindNone (row_faults file count tests place rows)
 pass_rows file count tests place [] h = tt
 pass_rows file count tests place (row ∷ rows) h =
-    (line_again file count row.line (tests place row.words) h.0, pass_rows file count tests (place + 1) rows h.1)
+    (line_passes file count row.line (tests place row.words) h.0, pass_rows file count tests (place + 1) rows h.1)
 
 -- the test at the last line
 abbrev pub last_tests : ℤ → List Row → List (Option MeshWhat)
 last_tests count rows = unless (nat_le (nat_abs count) (length rows)) Missing ∷ []
 
 -- a file's tests find nothing where those of its header and of its rows do, and no row is missing
-pub file_takes : (file : MeshFile) (count : ℤ) (header_tests : List (Option MeshWhat)) (tests : ℕ → List (List ℕ) → List (Option MeshWhat))
+pub file_spelled : (file : MeshFile) (count : ℤ) (header_tests : List (Option MeshWhat)) (tests : ℕ → List (List ℕ) → List (Option MeshWhat))
     (last : ℕ) (header : Row) (rows : List Row)
     → first (file_tests file count header_tests tests last header rows) ≡ None
     → FindNone header_tests × AllPass tests 0 rows × (nat_abs count ≤ length rows)
-file_takes file count header_tests tests last header rows e =
+file_spelled file count header_tests tests last header rows e =
     let all = each_none (file_tests file count header_tests tests last header rows) e in
     let end : List (Option MeshFault) = line_fault file count last (last_tests count rows) ∷ [] in
     let parts = append_none (row_faults file count tests 0 rows) end all.1 in
-    let enough = line_takes file count last (last_tests count rows) parts.1.0 in
+    let enough = line_spelled file count last (last_tests count rows) parts.1.0 in
     let enough' = leb-true (nat_abs count) (length rows) (unless_none (nat_le (nat_abs count) (length rows)) Missing enough.0) in
-    (line_takes file count header.line header_tests all.0, rows_pass file count tests 0 rows parts.0, enough')
+    (line_spelled file count header.line header_tests all.0, rows_pass file count tests 0 rows parts.0, enough')
 
-pub file_again : (file : MeshFile) (count : ℤ) (header_tests : List (Option MeshWhat)) (tests : ℕ → List (List ℕ) → List (Option MeshWhat))
+pub file_passes : (file : MeshFile) (count : ℤ) (header_tests : List (Option MeshWhat)) (tests : ℕ → List (List ℕ) → List (Option MeshWhat))
     (last : ℕ) (header : Row) (rows : List Row)
     → FindNone header_tests → AllPass tests 0 rows → nat_abs count ≤ length rows
     → first (file_tests file count header_tests tests last header rows) ≡ None
-file_again file count header_tests tests last header rows head pass enough =
+file_passes file count header_tests tests last header rows head pass enough =
     let end : List (Option MeshFault) = line_fault file count last (last_tests count rows) ∷ [] in
     let none : FindNone (last_tests count rows) = (none_unless _ Missing (le-leb (nat_abs count) (length rows) enough), tt) in
-    let end' : FindNone end = (line_again file count last (last_tests count rows) none, tt) in
+    let end' : FindNone end = (line_passes file count last (last_tests count rows) none, tt) in
     let rest = none_append (row_faults file count tests 0 rows) end (pass_rows file count tests 0 rows pass) end' in
-    first_none (file_tests file count header_tests tests last header rows) (line_again file count header.line header_tests head, rest)
+    first_none (file_tests file count header_tests tests last header rows) (line_passes file count header.line header_tests head, rest)
 
 -- ---- rows and items
 
 -- A row's tests find nothing where it is within the count and is some item's row; the number of the row at place 0 is base.
 pub record IsKind {A : Type 0} (count base : ℕ) (tests : ℕ → List (List ℕ) → List (Option MeshWhat))
     (IsRowOf : ℕ → List (List ℕ) → A → Type 0) : Type 0 where
-  pub takes : (place : ℕ) (words : List (List ℕ)) → FindNone (tests place words)
+  pub spelled_item : (place : ℕ) (words : List (List ℕ)) → FindNone (tests place words)
       → (place < count) × ((item : A) × IsRowOf (base + place) words item)
-  pub again : (place : ℕ) (words : List (List ℕ)) (item : A) → place < count → IsRowOf (base + place) words item
+  pub item_passes : (place : ℕ) (words : List (List ℕ)) (item : A) → place < count → IsRowOf (base + place) words item
       → FindNone (tests place words)
 
 -- rows whose tests find nothing are those of some items
-pub rows_take : {A : Type 0} {count base : ℕ} {tests : ℕ → List (List ℕ) → List (Option MeshWhat)}
+pub rows_spelled : {A : Type 0} {count base : ℕ} {tests : ℕ → List (List ℕ) → List (Option MeshWhat)}
     {IsRowOf : ℕ → List (List ℕ) → A → Type 0} → IsKind count base tests IsRowOf
     → (rows : List Row) (place number : ℕ) → number ≡ base + place → AllPass tests place rows
     → (items : List A) × AreNumbered IsRowOf number rows items
-rows_take kind [] place number e h = ([], tt)
-rows_take {base = base} {IsRowOf = IsRowOf} kind (row ∷ rows) place number e h =
-    let one = kind.takes place row.words h.0 in
-    let more = rows_take kind rows (place + 1) (number + 1) (omega arith) h.1 in
+rows_spelled kind [] place number e h = ([], tt)
+rows_spelled {base = base} {IsRowOf = IsRowOf} kind (row ∷ rows) place number e h =
+    let one = kind.spelled_item place row.words h.0 in
+    let more = rows_spelled kind rows (place + 1) (number + 1) (omega arith) h.1 in
     let here = subst (λ (k : ℕ). IsRowOf k row.words one.1.0) (sym e) one.1.1 in
     (one.1.0 ∷ more.0, (here, more.1))
 
@@ -108,21 +108,21 @@ pub rows_within : {A : Type 0} {count base : ℕ} {tests : ℕ → List (List �
     → (rows : List Row) (place : ℕ) → place ≤ count → AllPass tests place rows → place + length rows ≤ count
 rows_within kind [] place le h = omega arith
 rows_within kind (row ∷ rows) place le h =
-    let here = (kind.takes place row.words h.0).0 in
+    let here = (kind.spelled_item place row.words h.0).0 in
     let more = rows_within kind rows (place + 1) (omega arith) h.1 in
     omega arith
 
 -- the tests of the rows of items find nothing
-pub rows_again : {A : Type 0} {count base : ℕ} {tests : ℕ → List (List ℕ) → List (Option MeshWhat)}
+pub rows_passes : {A : Type 0} {count base : ℕ} {tests : ℕ → List (List ℕ) → List (Option MeshWhat)}
     {IsRowOf : ℕ → List (List ℕ) → A → Type 0} → IsKind count base tests IsRowOf
     → (rows : List Row) (items : List A) (place number : ℕ) → number ≡ base + place → place + length rows ≤ count
     → AreNumbered IsRowOf number rows items → AllPass tests place rows
-rows_again kind [] items place number e le h = tt
-rows_again kind (row ∷ rows) [] place number e le h = absurd h
-rows_again {IsRowOf = IsRowOf} kind (row ∷ rows) (item ∷ items) place number e le h =
+rows_passes kind [] items place number e le h = tt
+rows_passes kind (row ∷ rows) [] place number e le h = absurd h
+rows_passes {IsRowOf = IsRowOf} kind (row ∷ rows) (item ∷ items) place number e le h =
     let here = subst (λ (k : ℕ). IsRowOf k row.words item) e h.0 in
-    let more = rows_again kind rows items (place + 1) (number + 1) (omega arith) (omega arith) h.1 in
-    (kind.again place row.words item (omega arith) here, more)
+    let more = rows_passes kind rows items (place + 1) (number + 1) (omega arith) (omega arith) h.1 in
+    (kind.item_passes place row.words item (omega arith) here, more)
 
 -- there are as many items as rows
 pub numbered_length : {A : Type 0} (IsRowOf : ℕ → List (List ℕ) → A → Type 0) (number : ℕ) (rows : List Row) (items : List A)

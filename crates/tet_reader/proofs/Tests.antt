@@ -17,8 +17,8 @@ pub within_is : (low high : ℕ) (z : ℤ) → is_within low high z ≡ true →
 within_is low high (pos n) e = let b = and_parts (nat_le low n) (nat_le n high) e in (n, refl, leb-true low n b.0, leb-true n high b.1)
 within_is low high (negsuc n) e = cc
 
-pub is_within_again : (low high n : ℕ) → low ≤ n → n ≤ high → is_within low high (pos n) ≡ true
-is_within_again low high n p q = rw (le-leb low n p) (le-leb n high q)
+pub is_within_passes : (low high n : ℕ) → low ≤ n → n ≤ high → is_within low high (pos n) ≡ true
+is_within_passes low high n p q = rw (le-leb low n p) (le-leb n high q)
 
 -- ---- the first fault
 
@@ -98,55 +98,55 @@ append_zip R (x ∷ xs) ys (z ∷ zs) h =
 
 -- the test of the word finds nothing
 abbrev pub Passes : Word → List ℕ → Type 0
-Passes wanted word = word_test wanted word ≡ None
+Passes expected word = word_test expected word ≡ None
 
 -- a row's tests find nothing where it is within the count and each of its words passes
-pub row_takes : (count place : ℕ) (wanted : List Word) (words : List (List ℕ)) → FindNone (row_tests count place wanted words)
-    → (place < count) × AllZip Passes wanted words
-row_takes count place wanted words h =
+pub row_spelled : (count place : ℕ) (expected : List Word) (words : List (List ℕ)) → FindNone (row_tests count place expected words)
+    → (place < count) × AllZip Passes expected words
+row_spelled count place expected words h =
     let past = ltb-true place count (unless_none (nat_lt place count) Extra h.0) in
-    let few = leb-true (length wanted) (length words) (unless_none (nat_le (length wanted) (length words)) Missing h.1.0) in
-    let many = leb-true (length words) (length wanted) (unless_none (nat_le (length words) (length wanted)) Extra h.1.1.0) in
-    (past, zip_none (λ w. word_test w.0 w.1) wanted words (omega arith) h.1.1.1)
+    let few = leb-true (length expected) (length words) (unless_none (nat_le (length expected) (length words)) Missing h.1.0) in
+    let many = leb-true (length words) (length expected) (unless_none (nat_le (length words) (length expected)) Extra h.1.1.0) in
+    (past, zip_none (λ w. word_test w.0 w.1) expected words (omega arith) h.1.1.1)
 
-pub row_again : (count place : ℕ) (wanted : List Word) (words : List (List ℕ)) → place < count → AllZip Passes wanted words
-    → FindNone (row_tests count place wanted words)
-row_again count place wanted words past h =
-    let same = zip_length Passes wanted words h in
-    let few : length wanted ≤ length words = omega arith in
-    let many : length words ≤ length wanted = omega arith in
-    let rest = none_zip (λ w. word_test w.0 w.1) wanted words h in
+pub row_passes : (count place : ℕ) (expected : List Word) (words : List (List ℕ)) → place < count → AllZip Passes expected words
+    → FindNone (row_tests count place expected words)
+row_passes count place expected words past h =
+    let same = zip_length Passes expected words h in
+    let few : length expected ≤ length words = omega arith in
+    let many : length words ≤ length expected = omega arith in
+    let rest = none_zip (λ w. word_test w.0 w.1) expected words h in
     (none_unless _ _ (lt-ltb place count past), (none_unless _ _ (le-leb _ _ few), (none_unless _ _ (le-leb _ _ many), rest)))
 
 -- ---- words, by what they are read as
 
 -- the row's number
-pub number_takes : (number : ℕ) (read : Result ℤ NumberFault) → number_test number read ≡ None → read ≡ Ok (pos number)
-number_takes number (Ok z) e =
+pub number_spelled : (number : ℕ) (read : Result ℤ NumberFault) → number_test number read ≡ None → read ≡ Ok (pos number)
+number_spelled number (Ok z) e =
     let w = within_is number number z (unless_none (is_within number number z) NumberOrder e) in
     let same : w.0 ≡ number = omega (arith, w.2, w.3) in
     ap Ok (w.1 ∙ ap pos same)
-number_takes number (Err fault) e = cc
+number_spelled number (Err fault) e = cc
 
-pub number_again : (number : ℕ) (read : Result ℤ NumberFault) → read ≡ Ok (pos number) → number_test number read ≡ None
-number_again number read e = rw e (none_unless _ _ (is_within_again number number number (omega arith) (omega arith)))
+pub number_passes : (number : ℕ) (read : Result ℤ NumberFault) → read ≡ Ok (pos number) → number_test number read ≡ None
+number_passes number read e = rw e (none_unless _ _ (is_within_passes number number number (omega arith) (omega arith)))
 
 -- a coordinate or an attribute
-pub real_takes : (read : Result ℤ NumberFault) → real_test read ≡ None → (z : ℤ) × (read ≡ Ok z)
-real_takes (Ok z) e = (z, refl)
-real_takes (Err NoNumber) e = cc
-real_takes (Err TooFar) e = cc
+pub real_spelled : (read : Result ℤ NumberFault) → real_test read ≡ None → (z : ℤ) × (read ≡ Ok z)
+real_spelled (Ok z) e = (z, refl)
+real_spelled (Err NoNumber) e = cc
+real_spelled (Err TooFar) e = cc
 
-pub real_again : (z : ℤ) (read : Result ℤ NumberFault) → read ≡ Ok z → real_test read ≡ None
-real_again z read e = rw e refl
+pub real_passes : (z : ℤ) (read : Result ℤ NumberFault) → read ≡ Ok z → real_test read ≡ None
+real_passes z read e = rw e refl
 
 -- a marker
-pub marker_takes : (read : Result ℤ NumberFault) → marker_test read ≡ None → (z : ℤ) × (read ≡ Ok z)
-marker_takes (Ok z) e = (z, refl)
-marker_takes (Err fault) e = cc
+pub marker_spelled : (read : Result ℤ NumberFault) → marker_test read ≡ None → (z : ℤ) × (read ≡ Ok z)
+marker_spelled (Ok z) e = (z, refl)
+marker_spelled (Err fault) e = cc
 
-pub marker_again : (z : ℤ) (read : Result ℤ NumberFault) → read ≡ Ok z → marker_test read ≡ None
-marker_again z read e = rw e refl
+pub marker_passes : (z : ℤ) (read : Result ℤ NumberFault) → read ≡ Ok z → marker_test read ≡ None
+marker_passes z read e = rw e refl
 
 -- a corner is the number of a point, by its place
 corner_is : (base points : ℕ) (z : ℤ) → is_corner base points z ≡ true → (v : ℕ) × (z ≡ pos (base + v)) × (nat_lt v points ≡ true)
@@ -158,16 +158,16 @@ corner_is base points (pos n) e =
     (n - base, ap pos n_is, lt-ltb (n - base) points (omega arith))
 corner_is base points (negsuc n) e = cc
 
-pub corner_takes : (base points : ℕ) (read : Result ℤ NumberFault) → corner_test base points read ≡ None
+pub corner_spelled : (base points : ℕ) (read : Result ℤ NumberFault) → corner_test base points read ≡ None
     → (v : ℕ) × (read ≡ Ok (pos (base + v))) × (nat_lt v points ≡ true)
-corner_takes base points (Ok z) e =
+corner_spelled base points (Ok z) e =
     let c = corner_is base points z (unless_none (is_corner base points z) CornerRange e) in
     (c.0, ap Ok c.1, c.2)
-corner_takes base points (Err fault) e = cc
+corner_spelled base points (Err fault) e = cc
 
-pub corner_again : (base points v : ℕ) (read : Result ℤ NumberFault) → read ≡ Ok (pos (base + v)) → nat_lt v points ≡ true
+pub corner_passes : (base points v : ℕ) (read : Result ℤ NumberFault) → read ≡ Ok (pos (base + v)) → nat_lt v points ≡ true
     → corner_test base points read ≡ None
-corner_again base points v read e h =
+corner_passes base points v read e h =
     let high = ltb-true v points h in
     let low : nat_le base (base + v) ≡ true = le-leb base (base + v) (omega arith) in
     let less : nat_lt (base + v) (base + points) ≡ true = lt-ltb (base + v) (base + points) (omega arith) in

@@ -6,10 +6,10 @@ use Rattle.std.proofs.lemmas.List.{map-append, take_all, length-map, length-take
 use Rattle.liszt_base.specs.declared.answers.MeshWhat.{MeshWhat}
 use mir.Syntax.{w64}
 use mir.Val.{SFits}
-use Rattle.text_scan.proofs.Ranges.{whole_fits, millionths_fits}
+use Rattle.text_scan.proofs.RangeLemmas.{whole_fits, millionths_fits}
 use Rattle.tet_reader.specs.declared.words.Word.TheVariants.{Number, Real, Marker, Corner}
 use Rattle.tet_reader.specs.Tests.{first, word_test}
-use Rattle.tet_reader.specs.Kinds.{wanted_words, reading, number_or_zero, number_read}
+use Rattle.tet_reader.specs.Internal.RowKinds.{expected_words, word_value, value_or_zero, word_number}
 use Rattle.tet_reader.specs.declared.words.Word.{Word}
 use Rattle.tet_reader.specs.declared.kinds.RowKind.{RowKind}
 use Rattle.tet_reader.specs.declared.kinds.RowKind.TheVariants.{PointRow, CellRow}
@@ -17,10 +17,10 @@ use Rattle.tet_reader.specs.declared.kinds.RowKind.TheVariants.{PointRow, CellRo
 -- ---- lists
 
 -- the first of two lists of tests one after the other, where those in front find nothing
-pub first_behind : {A : Type 0} (xs ys : List (Option A)) → first xs ≡ None → first (xs ++ ys) ≡ first ys
-first_behind [] ys e = refl
-first_behind (None ∷ xs) ys e = first_behind xs ys e
-first_behind (Some x ∷ xs) ys e = cc
+pub first_after : {A : Type 0} (xs ys : List (Option A)) → first xs ≡ None → first (xs ++ ys) ≡ first ys
+first_after [] ys e = refl
+first_after (None ∷ xs) ys e = first_after xs ys e
+first_after (Some x ∷ xs) ys e = cc
 
 -- a list up to a place, and its member there
 pub take_more : {A : Type 0} (xs : List A) (k : ℕ) (x : A) → slice_get xs k ≡ Some x → take (k + 1) xs ≡ take k xs ++ x ∷ []
@@ -53,7 +53,7 @@ zip_size (x ∷ xs) (y ∷ ys) e = ap suc (zip_size xs ys (omega arith))
 -- ---- words
 
 -- how many words a row should have doesn't depend on its number
-pub same_size : (kind : RowKind) (number : ℕ) → length (wanted_words kind number) ≡ length (wanted_words kind 0)
+pub same_size : (kind : RowKind) (number : ℕ) → length (expected_words kind number) ≡ length (expected_words kind 0)
 same_size (PointRow attributes markers) number = refl
 same_size (CellRow attributes base points) number = refl
 
@@ -61,61 +61,61 @@ abbrev pub tests_of : List (Word × List ℕ) → List (Option MeshWhat)
 tests_of pairs = map (λ w. word_test w.0 w.1) pairs
 
 -- The words before a place passed, and these are their numbers.
-pub record AreRead (wanted : List Word) (words : List (List ℕ)) (numbers : List ℤ) (place : ℕ) : Type 0 where
-  pub pass : first (tests_of (take place (zip wanted words))) ≡ None
-  pub are : numbers ≡ map number_read (take place (zip wanted words))
+pub record AreRead (expected : List Word) (words : List (List ℕ)) (numbers : List ℤ) (place : ℕ) : Type 0 where
+  pub pass : first (tests_of (take place (zip expected words))) ≡ None
+  pub are : numbers ≡ map word_number (take place (zip expected words))
 
-pub none_read : (wanted : List Word) (words : List (List ℕ)) (numbers : List ℤ) → numbers ≡ [] → AreRead wanted words numbers 0
-none_read wanted words numbers e = record { pass = refl; are = e }
+pub none_read : (expected : List Word) (words : List (List ℕ)) (numbers : List ℤ) → numbers ≡ [] → AreRead expected words numbers 0
+none_read expected words numbers e = record { pass = refl; are = e }
 
-pub count_read : (wanted : List Word) (words : List (List ℕ)) (numbers : List ℤ) (place : ℕ) → AreRead wanted words numbers place
+pub count_read : (expected : List Word) (words : List (List ℕ)) (numbers : List ℤ) (place : ℕ) → AreRead expected words numbers place
     → length numbers ≤ place
-count_read wanted words numbers place h =
-    omega (arith, ap length h.are, length-map (take place (zip wanted words)) number_read, length-take place (zip wanted words))
+count_read expected words numbers place h =
+    omega (arith, ap length h.are, length-map (take place (zip expected words)) word_number, length-take place (zip expected words))
 
 -- a word more
-pub word_read : (wanted : List Word) (words : List (List ℕ)) (numbers : List ℤ) (place : ℕ) (want : Word) (word : List ℕ) (value : ℤ)
-    → AreRead wanted words numbers place → slice_get wanted place ≡ Some want → slice_get words place ≡ Some word
-    → word_test want word ≡ None → reading want word ≡ Ok value → AreRead wanted words (numbers ++ value ∷ []) (place + 1)
-word_read wanted words numbers place want word value h at at' passes value_is =
-    let pairs = zip wanted words in
-    let more = take_more pairs place (want, word) (zip_at wanted words place want word at at') in
+pub word_read : (expected : List Word) (words : List (List ℕ)) (numbers : List ℤ) (place : ℕ) (want : Word) (word : List ℕ) (value : ℤ)
+    → AreRead expected words numbers place → slice_get expected place ≡ Some want → slice_get words place ≡ Some word
+    → word_test want word ≡ None → word_value want word ≡ Ok value → AreRead expected words (numbers ++ value ∷ []) (place + 1)
+word_read expected words numbers place want word value h at at' passes value_is =
+    let pairs = zip expected words in
+    let more = take_more pairs place (want, word) (zip_at expected words place want word at at') in
     let tests : tests_of (take (place + 1) pairs) ≡ tests_of (take place pairs) ++ word_test want word ∷ [] =
     ap tests_of more ∙ map-append (λ w. word_test w.0 w.1) (take place pairs) ((want, word) ∷ []) in
-    let numbers_are : map number_read (take (place + 1) pairs) ≡ map number_read (take place pairs) ++ number_or_zero (reading want word) ∷ [] =
-    ap (map number_read) more ∙ map-append number_read (take place pairs) ((want, word) ∷ []) in
+    let numbers_are : map word_number (take (place + 1) pairs) ≡ map word_number (take place pairs) ++ value_or_zero (word_value want word) ∷ [] =
+    ap (map word_number) more ∙ map-append word_number (take place pairs) ((want, word) ∷ []) in
     record {
-      pass = ap first tests ∙ (first_behind (tests_of (take place pairs)) (word_test want word ∷ []) h.pass ∙ ap (λ t. first (t ∷ [])) passes);
-      are = cc (h.are, numbers_are, ap number_or_zero value_is);
+      pass = ap first tests ∙ (first_after (tests_of (take place pairs)) (word_test want word ∷ []) h.pass ∙ ap (λ t. first (t ∷ [])) passes);
+      are = cc (h.are, numbers_are, ap value_or_zero value_is);
     }
 
 -- a word's fault is the first
-pub word_wrong : (wanted : List Word) (words : List (List ℕ)) (numbers : List ℤ) (place : ℕ) (want : Word) (word : List ℕ) (what : MeshWhat)
-    → AreRead wanted words numbers place → slice_get wanted place ≡ Some want → slice_get words place ≡ Some word
-    → word_test want word ≡ Some what → first (tests_of (zip wanted words)) ≡ Some what
-word_wrong wanted words numbers place want word what h at at' wrong =
-    let pairs = zip wanted words in
-    let parts = parted pairs place (want, word) (zip_at wanted words place want word at at') in
+pub word_wrong : (expected : List Word) (words : List (List ℕ)) (numbers : List ℤ) (place : ℕ) (want : Word) (word : List ℕ) (what : MeshWhat)
+    → AreRead expected words numbers place → slice_get expected place ≡ Some want → slice_get words place ≡ Some word
+    → word_test want word ≡ Some what → first (tests_of (zip expected words)) ≡ Some what
+word_wrong expected words numbers place want word what h at at' wrong =
+    let pairs = zip expected words in
+    let parts = parted pairs place (want, word) (zip_at expected words place want word at at') in
     let tests : tests_of pairs ≡ tests_of (take place pairs) ++ word_test want word ∷ tests_of parts.0 =
     ap tests_of parts.1 ∙ map-append (λ w. word_test w.0 w.1) (take place pairs) ((want, word) ∷ parts.0) in
     ap first tests
-    ∙ (first_behind (tests_of (take place pairs)) (word_test want word ∷ tests_of parts.0) h.pass
+    ∙ (first_after (tests_of (take place pairs)) (word_test want word ∷ tests_of parts.0) h.pass
     ∙ ap (λ t. first (t ∷ tests_of parts.0)) wrong)
 
 -- all of them
-pub all_read : (wanted : List Word) (words : List (List ℕ)) (numbers : List ℤ) (place : ℕ) → AreRead wanted words numbers place
-    → length wanted ≡ length words → length words ≤ place
-    → (first (tests_of (zip wanted words)) ≡ None) × (numbers ≡ map number_read (zip wanted words))
-all_read wanted words numbers place h same all =
-    let whole = take_all place (zip wanted words) (omega (arith, zip_size wanted words same)) in
-    (ap (λ l. first (tests_of l)) (sym whole) ∙ h.pass, h.are ∙ ap (map number_read) whole)
+pub all_read : (expected : List Word) (words : List (List ℕ)) (numbers : List ℤ) (place : ℕ) → AreRead expected words numbers place
+    → length expected ≡ length words → length words ≤ place
+    → (first (tests_of (zip expected words)) ≡ None) × (numbers ≡ map word_number (zip expected words))
+all_read expected words numbers place h same all =
+    let whole = take_all place (zip expected words) (omega (arith, zip_size expected words same)) in
+    (ap (λ l. first (tests_of l)) (sym whole) ∙ h.pass, h.are ∙ ap (map word_number) whole)
 
 -- a number that is read fits into 64 bits
-pub reading_fits : (want : Word) (word : List ℕ) (value : ℤ) → reading want word ≡ Ok value → SFits w64 value
-reading_fits (Number number) word value e = whole_fits word value e
-reading_fits Real word value e = millionths_fits word value e
-reading_fits Marker word value e = whole_fits word value e
-reading_fits (Corner base points) word value e = whole_fits word value e
+pub word_value_fits : (want : Word) (word : List ℕ) (value : ℤ) → word_value want word ≡ Ok value → SFits w64 value
+word_value_fits (Number number) word value e = whole_fits word value e
+word_value_fits Real word value e = millionths_fits word value e
+word_value_fits Marker word value e = whole_fits word value e
+word_value_fits (Corner base points) word value e = whole_fits word value e
 
 -- a fault in front is the first
 pub first_before : {A : Type 0} (xs ys : List (Option A)) (x : A) → first xs ≡ Some x → first (xs ++ ys) ≡ Some x

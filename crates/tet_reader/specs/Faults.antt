@@ -1,8 +1,8 @@
--- The first fault of a mesh's two files, in the order of their lines and of the tests of one line. This project's own.
+-- The first fault of a mesh's two files, in the order of lines and of the tests of each line. This project's own.
 use Rattle.std.specs.Prelude.{ℕ, ◌+◌, ◌-◌, nat_le, if◌then◌else◌, Bool, false, Option, Some, None, List, [], ◌∷◌, ◌++◌, map, take, drop, length, ℤ, pos, nat_abs, Result, Ok, Err, replicate, slice_index_or}
 use Rattle.std.specs.List.{zip, enumerate_from}
 use Rattle.std.specs.Option.{option_map}
-use Rattle.liszt_base.specs.Corners.{are_different, along, comes_again, is_third}
+use Rattle.liszt_base.specs.Corners.{are_different, along, repeats_earlier, is_third}
 use Rattle.liszt_base.specs.declared.answers.MeshFault.{MeshFault}
 use Rattle.liszt_base.specs.declared.answers.MeshFile.{MeshFile}
 use Rattle.liszt_base.specs.declared.answers.MeshFile.TheVariants.{Node, Ele}
@@ -16,30 +16,30 @@ use Rattle.tet_reader.specs.Tests.{first, unless, is_within, row_tests}
 use Rattle.tet_reader.specs.declared.words.Word.{Word}
 use Rattle.tet_reader.specs.declared.words.Word.TheVariants.{Number, Real, Marker, Corner}
 
--- the count that a fault tells: the header's for TooMany, else 0
-abbrev pub told_count : MeshWhat → ℤ → ℤ
-told_count TooMany count = count
-told_count _ count = pos 0
+-- The number that a fault reports: the header's count for TooMany, otherwise 0.
+abbrev pub reported_count : MeshWhat → ℤ → ℤ
+reported_count TooMany count = count
+reported_count _ count = pos 0
 
--- a fault of a line
+-- The fault of a line.
 abbrev pub fault_at : MeshFile → ℤ → ℕ → MeshWhat → MeshFault
-fault_at file count line what = record { file = file; line = line; what = what; number = told_count what count }
+fault_at file count line what = record { file = file; line = line; what = what; number = reported_count what count }
 
--- the number that a word spells, without its sign, and 0 where it spells none
-abbrev pub size_of : Result ℤ NumberFault → ℕ
-size_of (Ok z) = nat_abs z
-size_of (Err fault) = 0
+-- The number that a word spells, without its sign, and 0 where it spells none.
+abbrev pub magnitude_or_zero : Result ℤ NumberFault → ℕ
+magnitude_or_zero (Ok z) = nat_abs z
+magnitude_or_zero (Err fault) = 0
 
 abbrev pub is_one : Result ℤ NumberFault → Bool
 is_one (Ok z) = is_within 1 1 z
 is_one (Err fault) = false
 
--- the number that the first row should have: 1 where it has that, and else 0
+-- The number that the first row should have: 1 where it has the number 1, otherwise 0.
 abbrev pub first_number : List Row → ℕ
 first_number [] = 0
 first_number (row ∷ rows) = if is_one (whole_of (slice_index_or row.words 0 [])) then 1 else 0
 
--- the words that a point's row should have, and a cell's
+-- The words that the row of a point should have, and those of the row of a cell.
 abbrev pub point_words : ℕ → ℕ → ℕ → List Word
 point_words attributes markers number = Number number ∷ Real ∷ Real ∷ Real ∷ (replicate attributes Real ++ replicate markers Marker)
 
@@ -47,16 +47,16 @@ abbrev pub cell_words : ℕ → ℕ → ℕ → ℕ → List Word
 cell_words attributes points base number =
     Number number ∷ Corner base points ∷ Corner base points ∷ Corner base points ∷ Corner base points ∷ replicate attributes Real
 
--- the corners of a cell's row, as places of points
+-- The corners of a cell's row, as indices of points.
 abbrev pub row_corners : ℕ → List (List ℕ) → List ℕ
-row_corners base words = map (λ word. size_of (whole_of word) - base) (take 4 (drop 1 words))
+row_corners base words = map (λ word. magnitude_or_zero (whole_of word) - base) (take 4 (drop 1 words))
 
--- what the first of the tests of a line finds, by its line
+-- The first fault of the tests of a line, with the line.
 abbrev pub line_fault : MeshFile → ℤ → ℕ → List (Option MeshWhat) → Option MeshFault
 line_fault file count line tests = option_map (fault_at file count line) (first tests)
 
--- The tests of a file line by line: the header, each further row by its place from 0, and, at the last line, whether a row
--- is missing.
+-- The tests of a file, line by line: those of the header, those of each row after it by its index, and, at the last line,
+-- whether a row is missing.
 abbrev pub file_tests : MeshFile → ℤ → List (Option MeshWhat) → (ℕ → List (List ℕ) → List (Option MeshWhat)) → ℕ → Row → List Row → List (Option MeshFault)
 file_tests file count header_tests tests last header rows =
     line_fault file count header.line header_tests
@@ -78,7 +78,7 @@ node_tests last (header ∷ rows) =
 abbrev pub node_fault : TextRows → Option MeshFault
 node_fault text = first (node_tests text.last_line text.rows)
 
--- ELE FILE over so many points, the first of which has the number base
+-- ELE FILE over n points, the first of which has the number `base`
 abbrev pub ele_row_tests : ℕ → ℕ → List ℤ → ℕ → ℕ → List (List ℕ) → List (Option MeshWhat)
 ele_row_tests points base numbers own place words =
     row_tests (nat_abs (number_at numbers 0)) place (cell_words (nat_abs (number_at numbers 2)) points base (own + place)) words
@@ -94,22 +94,22 @@ abbrev pub ele_fault : ℕ → ℕ → TextRows → Option MeshFault
 ele_fault points base text = first (ele_tests points base text.last_line text.rows)
 
 -- WHOLE MESH
--- a fault of a cell's line, where the test passes
+-- The fault of a cell's line, where the condition holds.
 abbrev pub cell_fault : MeshWhat → Bool × Row → Option MeshFault
 cell_fault what cell = if cell.0 then Some (fault_at Ele (pos 0) cell.1.line what) else None
 
--- first a cell that comes twice, at the least such line, and then a cell that is the third with some face
+-- First the earliest cell that repeats an earlier one, and then the earliest cell that is the third with some face.
 abbrev pub whole_tests : ℕ → List Row → List (Option MeshFault)
 whole_tests base rows =
     let cells : List (List ℕ) = map (λ row. row_corners base row.words) rows in
-    map (cell_fault CellTwice) (zip (along comes_again [] cells) rows) ++ map (cell_fault FaceShared) (zip (along is_third [] cells) rows)
+    map (cell_fault CellTwice) (zip (along repeats_earlier [] cells) rows) ++ map (cell_fault FaceShared) (zip (along is_third [] cells) rows)
 
--- the ele file, then the whole mesh
+-- The ele file, then the whole mesh.
 abbrev pub cells_fault : ℕ → ℕ → TextRows → Option MeshFault
 cells_fault points base ele = first (ele_fault points base ele ∷ whole_tests base (drop 1 ele.rows))
 
--- BOTH FILES: the node file, then the ele file over its points, of which there are as many as rows behind the header where
--- the node file has no fault, then the whole mesh
+-- BOTH FILES: the node file, then the ele file over its points, then the whole mesh. Where the node file has no fault, the
+-- number of its points is the number of rows after the header.
 abbrev pub mesh_fault : TextRows → TextRows → Option MeshFault
 mesh_fault node ele =
     let base : ℕ = first_number (drop 1 node.rows) in

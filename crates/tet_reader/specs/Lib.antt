@@ -2,8 +2,6 @@ pub mod Answers
 pub mod Faults
 pub mod Files
 pub mod Headers
-pub mod Kinds
-pub mod Misfits
+pub mod Internal
 pub mod Points
-pub mod Repeats
 pub mod Tests

@@ -1,5 +1,5 @@
--- The points and the cells that the rows of a mesh's two files spell: TetGen's .node and .ele forms. The reading of
--- coordinates and attributes in millionths, and that the rows of cells have a first number of their own, is this project's.
+-- The points and the cells that the rows of a mesh's two files spell: TetGen's .node and .ele forms. That coordinates and
+-- attributes are read in millionths, and that cells may be numbered from a base of their own, is this project's.
 use Rattle.std.specs.Prelude.{◌≡◌, ℕ, ◌+◌, ◌≤◌, List, [], ◌∷◌, ◌++◌, map, length, ℤ, pos, Result, Ok, ⊤, slice_index_or}
 use Rattle.liszt_base.specs.Corners.{IsCell}
 use Rattle.liszt_base.specs.declared.mesh.Point.{Point}
@@ -9,14 +9,14 @@ use Rattle.text_scan.specs.Rows.{Row}
 use Rattle.text_scan.specs.declared.faults.NumberFault.{NumberFault}
 use Rattle.tet_reader.specs.Headers.{IsNodeHeader, IsEleHeader}
 
--- the words are read as these numbers
+-- The words are read as these numbers.
 abbrev pub Spell : (List ℕ → Result ℤ NumberFault) → List (List ℕ) → List ℤ → Type 0
 Spell read words numbers = map read words ≡ map Ok numbers
 
 abbrev pub first_or_zero : List ℤ → ℤ
 first_or_zero numbers = slice_index_or numbers 0 (pos 0)
 
--- A point's row: its number, x, y and z, so many attributes, which are read and not used, and so many markers, 0 or 1.
+-- The row of a point: its number, x, y and z, the attributes, which are read and not used, and 0 or 1 markers.
 pub record IsPointRow (attributes markers number : ℕ) (words : List (List ℕ)) (point : Point) : Type 0 where
   pub number_word : List ℕ
   pub coordinate_words : List (List ℕ)
@@ -33,8 +33,8 @@ pub record IsPointRow (attributes markers number : ℕ) (words : List (List ℕ)
   pub markers_count : length marker_words ≡ markers
   pub mark_is : point.mark ≡ first_or_zero marker_numbers
 
--- A cell's row: its number, the numbers of four different points, and so many attributes, of which the first is its region.
--- A corner is kept as the place of its point, from 0.
+-- The row of a cell: its number, the numbers of four different points, and the attributes, of which the first is the region.
+-- A corner is kept as the index of its point, from 0.
 pub record IsCellRow (attributes points base number : ℕ) (words : List (List ℕ)) (cell : RawCell) : Type 0 where
   pub number_word : List ℕ
   pub corner_words : List (List ℕ)
@@ -48,14 +48,14 @@ pub record IsCellRow (attributes points base number : ℕ) (words : List (List �
   pub attributes_count : length attribute_words ≡ attributes
   pub region_is : cell.region ≡ first_or_zero attribute_numbers
 
--- each row is that of the item at its place, and the numbers run on by one
+-- Each row is the row of the item at the same index. The rows are numbered consecutively.
 abbrev pub AreNumbered : {A : Type 0} → (ℕ → List (List ℕ) → A → Type 0) → ℕ → List Row → List A → Type 0
 AreNumbered IsRowOf number [] [] = ⊤
 AreNumbered IsRowOf number [] (item ∷ items) = ⊥
 AreNumbered IsRowOf number (row ∷ rows) [] = ⊥
 AreNumbered IsRowOf number (row ∷ rows) (item ∷ items) = IsRowOf number row.words item × AreNumbered IsRowOf (number + 1) rows items
 
--- The rows of a node file spell these points; base is the first one's number, 0 or 1, and 0 where there are none.
+-- The rows of a node file spell these points. The base is the number of the first point, 0 or 1, and 0 where there is none.
 pub record Points (rows : List Row) (base : ℕ) (points : List Point) : Type 0 where
   pub header : Row
   pub others : List Row
@@ -67,7 +67,7 @@ pub record Points (rows : List Row) (base : ℕ) (points : List Point) : Type 0 
   pub base_of_none : length points ≡ 0 → base ≡ 0
   pub each : AreNumbered (IsPointRow attributes markers) base others points
 
--- The rows of an ele file spell these cells over those points; their own first number is 0 or 1.
+-- The rows of an ele file spell these cells over these points. The number of the first cell is 0 or 1.
 pub record Cells (rows : List Row) (points : List Point) (base : ℕ) (cells : List RawCell) : Type 0 where
   pub header : Row
   pub others : List Row

@@ -2,17 +2,20 @@ ghost use Rattle.std.specs.Prelude.{◌≡◌, ◌<◌, ◌≤◌, ◌^◌, ◌&
 ghost use Rattle.std.specs.List.{list_all};
 ghost use Rattle.std.specs.Str.Parse.{signed_digits_value};
 ghost use Rattle.text_scan.specs.Numbers.{is_whole};
-ghost use Rattle.text_scan.specs.Tables.{row_at};
+ghost use Rattle.text_scan.specs.Rows.{row_at};
 ghost use Rattle.tet_reader.specs.Tests.{first, is_within as IsWithin};
 ghost use Rattle.tet_reader.specs.Headers.{number_at, header_numbers, node_number_tests, ele_number_tests};
 ghost use Rattle.tet_reader.specs.Faults.{fault_at as FaultAt, first_number as FirstNumber, node_fault, ele_fault};
-ghost use Rattle.tet_reader.specs.Answers.{HeadsNode, HeadsEle, ReadsHeader};
+ghost use Rattle.tet_reader.specs.Internal.RowReading.{HeadsNode, HeadsEle, ReadsHeader};
 
 use crate::number_row::NumberRow;
-use liszt_base::{MeshFault, MeshFile, MeshWhat};
+use liszt_base::{CELL_LIMIT, MeshFault, MeshFile, MeshWhat, POINT_LIMIT};
 use text_scan::{Rows, whole};
 
-/// What the header of a node file says: how many points there are, and how many attributes and markers each has.
+/// The greatest number of attributes of a point or a cell.
+const MOST_ATTRIBUTES: u32 = 64;
+
+/// The header of a node file: the number of points, and the numbers of attributes and markers of each point.
 #[derive(Clone, Copy, Debug)]
 pub struct NodeHeader {
     pub points: u32,
@@ -20,14 +23,14 @@ pub struct NodeHeader {
     pub markers: u32,
 }
 
-/// What the header of an ele file says: how many cells there are, and how many attributes each has.
+/// The header of an ele file: the number of cells, and the number of attributes of each cell.
 #[derive(Clone, Copy, Debug)]
 pub struct EleHeader {
     pub cells: u32,
     pub attributes: u32,
 }
 
-/// A fault of a line. It tells the header's count where that is too much.
+/// The fault of a line. `TooMany` reports the header's count.
 pub(crate) fn fault_at(file: MeshFile, count: i64, line: u32, what: MeshWhat) -> MeshFault
     ensures { result ≡ FaultAt file count line what }
 {
@@ -40,8 +43,8 @@ pub(crate) fn fault_at(file: MeshFile, count: i64, line: u32, what: MeshWhat) ->
     }
 }
 
-/// The same, of a file whose header names this count.
-pub(crate) fn fault_within(file: MeshFile, count: u32, line: u32, what: MeshWhat) -> MeshFault
+/// The fault of a line in a file whose header has this count.
+pub(crate) fn fault_with_count(file: MeshFile, count: u32, line: u32, what: MeshWhat) -> MeshFault
     ensures { result ≡ FaultAt file (pos count) line what }
 {
     fault_at(file, i64::from(count), line, what)
@@ -61,9 +64,9 @@ pub(crate) fn node_header(rows: &Rows) -> Result<NodeHeader, MeshFault>
     match node_number_fault(&numbers) {
         Some(what) => Err(fault_at(MeshFile::Node, numbers.at(0), rows.line(0), what)),
         None => Ok(NodeHeader {
-            points: size_at(&numbers, 0),
-            attributes: size_at(&numbers, 2),
-            markers: size_at(&numbers, 3),
+            points: count_at(&numbers, 0),
+            attributes: count_at(&numbers, 2),
+            markers: count_at(&numbers, 3),
         }),
     }
 }
@@ -82,13 +85,13 @@ pub(crate) fn ele_header(rows: &Rows, points: u32, base: u32) -> Result<EleHeade
     match ele_number_fault(&numbers) {
         Some(what) => Err(fault_at(MeshFile::Ele, numbers.at(0), rows.line(0), what)),
         None => Ok(EleHeader {
-            cells: size_at(&numbers, 0),
-            attributes: size_at(&numbers, 2),
+            cells: count_at(&numbers, 0),
+            attributes: count_at(&numbers, 2),
         }),
     }
 }
 
-/// The number of the first row behind the header, 1 where it spells that, and else 0.
+/// The number of the first row after the header: 1 where the row spells 1, otherwise 0.
 pub(crate) fn first_number(rows: &Rows) -> u32
     ensures { result ≡ FirstNumber (drop 1 rows.now.rows) }
 {
@@ -99,29 +102,32 @@ pub(crate) fn first_number(rows: &Rows) -> u32
     }
 }
 
-/// Reads the numbers of a header, the missing ones from the right as they are given, and says whether it is spelled as one.
+/// Reads the numbers of a header, with the defaults for missing words, and returns whether the row is spelled as a header.
 fn read_header(rows: &Rows, missing: &[i64], numbers: &mut NumberRow) -> bool
     requires some { 0 < length rows.now.rows }
     requires short { length missing.now ≤ 69 }
     requires none { numbers.old ≡ [] }
-    ensures spelled { result ≡ (nat_le (length (row_at rows.now.rows 0).words) (length missing.now) && list_all is_whole (row_at rows.now.rows 0).words) }
-    ensures numbers { result ≡ true → numbers.new ≡ header_numbers missing.now (row_at rows.now.rows 0).words }
+    ensures spelled { result ≡ (nat_le (length (row_at rows.now.rows 0).words)
+        (length missing.now) && list_all is_whole (row_at rows.now.rows 0).words) }
+    ensures numbers { result ≡ true → numbers.new ≡ header_numbers missing.now
+        (row_at rows.now.rows 0).words }
 {
     let words = rows.words(0);
-    if words > missing.len() || !read_wholes(rows, numbers) {
+    if words > missing.len() || !read_whole_numbers(rows, numbers) {
         return false;
     }
     numbers.extend(&missing[words..]);
     true
 }
 
-/// Reads the words of the first row as whole numbers, and says whether all are.
-fn read_wholes(rows: &Rows, numbers: &mut NumberRow) -> bool
+/// Reads the words of the first row as whole numbers, and returns whether all are.
+fn read_whole_numbers(rows: &Rows, numbers: &mut NumberRow) -> bool
     requires some { 0 < length rows.now.rows }
     requires short { length (row_at rows.now.rows 0).words ≤ 69 }
     requires none { numbers.old ≡ [] }
     ensures spelled { result ≡ list_all is_whole (row_at rows.now.rows 0).words }
-    ensures numbers { result ≡ true → numbers.new ≡ map (signed_digits_value 10) (row_at rows.now.rows 0).words }
+    ensures numbers { result ≡ true → numbers.new ≡ map (signed_digits_value 10)
+        (row_at rows.now.rows 0).words }
 {
     for place in 0..rows.words(0) {
         match whole(rows.word(0, place)) {
@@ -132,36 +138,36 @@ fn read_wholes(rows: &Rows, numbers: &mut NumberRow) -> bool
     true
 }
 
-/// What is wrong with the numbers of a node file's header.
+/// The first fault of the numbers of a node file's header.
 fn node_number_fault(numbers: &NumberRow) -> Option<MeshWhat>
     requires { length numbers.now ≡ 4 }
     ensures { result ≡ first (node_number_tests numbers.now) }
 {
     if numbers.at(0) < 0 {
         Some(MeshWhat::Header)
-    } else if numbers.at(0) > 200_000 {
+    } else if numbers.at(0) > i64::from(POINT_LIMIT) {
         Some(MeshWhat::TooMany)
     } else if numbers.at(1) != 3 {
         Some(MeshWhat::Dimension)
-    } else if !is_within(numbers.at(2), 64) || !is_within(numbers.at(3), 1) {
+    } else if !is_within(numbers.at(2), MOST_ATTRIBUTES) || !is_within(numbers.at(3), 1) {
         Some(MeshWhat::Header)
     } else {
         None
     }
 }
 
-/// What is wrong with the numbers of an ele file's header.
+/// The first fault of the numbers of an ele file's header.
 fn ele_number_fault(numbers: &NumberRow) -> Option<MeshWhat>
     requires { length numbers.now ≡ 3 }
     ensures { result ≡ first (ele_number_tests numbers.now) }
 {
     if numbers.at(0) < 0 {
         Some(MeshWhat::Header)
-    } else if numbers.at(0) > 1_000_000 {
+    } else if numbers.at(0) > i64::from(CELL_LIMIT) {
         Some(MeshWhat::TooMany)
     } else if numbers.at(1) == 10 {
         Some(MeshWhat::SecondOrder)
-    } else if numbers.at(1) != 4 || !is_within(numbers.at(2), 64) {
+    } else if numbers.at(1) != 4 || !is_within(numbers.at(2), MOST_ATTRIBUTES) {
         Some(MeshWhat::Header)
     } else {
         None
@@ -175,8 +181,8 @@ fn is_within(number: i64, most: u32) -> bool
     number >= 0 && number <= i64::from(most)
 }
 
-/// The number at a place, without its sign.
-fn size_at(numbers: &NumberRow, place: usize) -> u32
+/// The number at an index, without its sign.
+fn count_at(numbers: &NumberRow, place: usize) -> u32
     requires inside { place < length numbers.now }
     requires few { nat_abs (number_at numbers.now place) < 2 ^ 32 }
     ensures { result ≡ nat_abs (number_at numbers.now place) }

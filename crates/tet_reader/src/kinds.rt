@@ -1,14 +1,14 @@
 ghost use Rattle.std.specs.Prelude.{◌≡◌, ◌+◌, ◌^◌, ◌<◌, ◌≤◌, [], Some, length, slice_get};
-ghost use Rattle.text_scan.specs.Tables.{row_at};
-ghost use Rattle.tet_reader.specs.Kinds.{wanted_words, ReadsRow, ReadsWords};
+ghost use Rattle.text_scan.specs.Rows.{row_at};
+ghost use Rattle.tet_reader.specs.Internal.RowKinds.{expected_words, ReadsRow, ReadsWords};
 
 use crate::number_row::NumberRow;
 use crate::words::{Word, read_word};
 use liszt_base::MeshWhat;
 use text_scan::Rows;
 
-/// The kinds of rows: of a point, with so many attributes and markers; of a cell, with so many attributes, over points of which the first
-/// has the number `base`.
+/// The kinds of rows: of a point, by the numbers of attributes and markers; of a cell, by the number of attributes, the number of
+/// the first point and the number of points.
 #[derive(Clone, Copy, Debug)]
 pub enum RowKind {
     PointRow(u32, u32),
@@ -16,10 +16,10 @@ pub enum RowKind {
 }
 
 impl RowKind {
-    /// How many words a row should have.
+    /// The number of words that a row should have.
     fn words(self) -> usize
-        requires { length (wanted_words self 0) ≤ 69 }
-        ensures { result ≡ length (wanted_words self 0) }
+        requires { length (expected_words self 0) ≤ 69 }
+        ensures { result ≡ length (expected_words self 0) }
     {
         match self {
             RowKind::PointRow(attributes, markers) => 4 + attributes as usize + markers as usize,
@@ -27,10 +27,10 @@ impl RowKind {
         }
     }
 
-    /// What the word at a place of the row with this number should stand for.
+    /// The word that should be at an index of the row with this number.
     fn word(self, number: u32, place: usize) -> Word
-        requires { place < length (wanted_words self 0) }
-        ensures { slice_get (wanted_words self number) place ≡ Some result }
+        requires { place < length (expected_words self 0) }
+        ensures { slice_get (expected_words self number) place ≡ Some result }
     {
         match self {
             _ if place == 0 => Word::Number(number),
@@ -41,8 +41,7 @@ impl RowKind {
         }
     }
 
-    /// Tests the row behind so many rows and the header, of `count`, the first of which has the number `first`, and reads the numbers of
-    /// its words.
+    /// Tests the row at index `place` after the header, of `count` rows numbered from `first`, and reads the numbers of its words.
     pub fn read_row(
         self,
         rows: &Rows,
@@ -53,8 +52,9 @@ impl RowKind {
     ) -> Result<(), MeshWhat>
         requires place { place + 1 < length rows.now.rows }
         requires few { count + first < 2 ^ 32 }
-        requires short { length (wanted_words self 0) ≤ 69 }
-        ensures { ReadsRow count place (wanted_words self (first + place)) (row_at rows.now.rows (place + 1)).words numbers.new result }
+        requires short { length (expected_words self 0) ≤ 69 }
+        ensures { ReadsRow count place (expected_words self (first + place))
+            (row_at rows.now.rows (place + 1)).words numbers.new result }
     {
         if place >= count as usize {
             return Err(MeshWhat::Extra);
@@ -79,10 +79,11 @@ impl RowKind {
         numbers: &mut NumberRow,
     ) -> Result<(), MeshWhat>
         requires row { row < length rows.now.rows }
-        requires words { length (row_at rows.now.rows row).words ≡ length (wanted_words self 0) }
-        requires short { length (wanted_words self 0) ≤ 69 }
+        requires words { length (row_at rows.now.rows row).words ≡ length (expected_words self 0) }
+        requires short { length (expected_words self 0) ≤ 69 }
         requires none { numbers.old ≡ [] }
-        ensures { ReadsWords (wanted_words self number) (row_at rows.now.rows row).words numbers.new result }
+        ensures { ReadsWords (expected_words self number)
+            (row_at rows.now.rows row).words numbers.new result }
     {
         for place in 0..self.words() {
             match read_word(self.word(number, place), rows.word(row, place)) {

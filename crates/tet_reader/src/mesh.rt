@@ -8,8 +8,8 @@ use liszt_base::{MeshFault, RawMesh, Refused};
 use std::alloc::Global;
 use text_scan::rows_of;
 
-/// The mesh that a node file and an ele file spell, as `read_points` and `read_cells` give it. Refuses other files with their first fault, the
-/// node file's first; want of memory is `Refused::NoMemory`.
+/// The mesh that a node file and an ele file spell, as `read_points` and `read_cells` give it. Other files are refused with their first
+/// fault, those of the node file first.
 pub fn read_mesh(alloc: Global, node: &[u8], ele: &[u8]) -> Result<RawMesh, Refused<MeshFault>>
     requires node { length node.now < 2 ^ 31 }
     requires ele { length ele.now < 2 ^ 31 }

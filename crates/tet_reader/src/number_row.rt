@@ -2,10 +2,11 @@ ghost use Rattle.std.specs.Prelude.{◌≡◌, ◌+◌, ◌<◌, ◌≤◌, [], 
 
 use std::marker::Model;
 
-/// How many words a row may have: a number, four corners and 64 attributes, or a number, three coordinates, 64 attributes and a marker.
+/// The greatest number of words of a row: a number, four corners and 64 attributes, or a number, three coordinates, 64 attributes and a
+/// marker.
 pub(crate) const MOST_WORDS: usize = 69;
 
-/// The numbers of a row's words. Contracts see the list of them.
+/// The numbers of a row's words. Contracts see the list of numbers.
 #[derive(Drop)]
 pub(crate) struct NumberRow {
     room: [i64; MOST_WORDS],
@@ -23,7 +24,7 @@ impl Model for NumberRow {
 }
 
 impl NumberRow {
-    /// No numbers.
+    /// An empty row.
     pub fn new() -> NumberRow
         ensures { result ≡ [] }
     {
@@ -33,14 +34,14 @@ impl NumberRow {
         }
     }
 
-    /// Forgets the numbers.
+    /// Removes all numbers.
     pub fn clear(&mut self)
         ensures { self.new ≡ [] }
     {
         self.count = 0;
     }
 
-    /// Adds a number.
+    /// Appends a number.
     pub fn push(&mut self, number: i64)
         requires { length self.old < 69 }
         ensures { self.new ≡ self.old ++ number ∷ [] }
@@ -49,7 +50,7 @@ impl NumberRow {
         self.count += 1;
     }
 
-    /// Adds numbers.
+    /// Appends numbers.
     pub fn extend(&mut self, more: &[i64])
         requires { length self.old + length more.now ≤ 69 }
         ensures { self.new ≡ self.old ++ more.now }
@@ -66,7 +67,7 @@ impl NumberRow {
         &self.room[..self.count]
     }
 
-    /// A number by its place, from 0.
+    /// The number at an index, from 0.
     pub fn at(&self, place: usize) -> i64
         requires { place < length self.now }
         ensures { slice_get self.now place ≡ Some result }

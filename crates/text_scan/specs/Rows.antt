@@ -1,10 +1,10 @@
 -- The rows of a text: its lines, without comments, cut into words. That `#` begins a comment and that blank lines are
 -- allowed is TetGen's file format; where a line ends and what a blank is, is this project's own.
-use Rattle.std.specs.Prelude.{◌≡◌, ◌≢◌, ℕ, ◌≤◌, ◌==◌, ◌||◌, ◌⊎◌, nat_lt, if◌then◌else◌, Bool, false, List, [], ◌∷◌, ◌++◌, map, length}
+use Rattle.std.specs.Prelude.{◌≡◌, ◌≢◌, ℕ, ◌≤◌, ◌==◌, ◌||◌, ◌⊎◌, nat_lt, if◌then◌else◌, Bool, false, List, [], ◌∷◌, ◌++◌, map, length, slice_index_or}
 use Rattle.std.specs.List.{slice_split, before_first, enumerate_from, filter, flat_map, list_any, AllByRecursion}
 use Rattle.std.specs.Str.Lines.{strip_carriage_return}
 
--- LF, `#`, and a space or a tab
+-- A line feed, a `#`, and a blank: a space or a tab.
 abbrev pub is_line_feed : ℕ → Bool
 is_line_feed b = b == 10
 
@@ -14,25 +14,25 @@ is_hash b = b == 35
 abbrev pub is_blank : ℕ → Bool
 is_blank b = (b == 32) || (b == 9)
 
--- the parts of a text, less an empty last one
-abbrev pub less_empty_last : List (List ℕ) → List (List ℕ)
-less_empty_last [] = []
-less_empty_last ([] ∷ []) = []
-less_empty_last (part ∷ parts) = part ∷ less_empty_last parts
+-- The parts of a text without an empty last one.
+abbrev pub without_empty_last : List (List ℕ) → List (List ℕ)
+without_empty_last [] = []
+without_empty_last ([] ∷ []) = []
+without_empty_last (part ∷ parts) = part ∷ without_empty_last parts
 
--- The lines: the parts between the LFs. An LF that is the last byte begins no further line.
+-- The lines of a text: the parts between the LFs. No line follows an LF that is the last byte.
 abbrev pub lines : List ℕ → List (List ℕ)
-lines bytes = less_empty_last (slice_split is_line_feed bytes)
+lines bytes = without_empty_last (slice_split is_line_feed bytes)
 
-abbrev pub is_some_word : List ℕ → Bool
-is_some_word word = nat_lt 0 (length word)
+abbrev pub is_nonempty : List ℕ → Bool
+is_nonempty word = nat_lt 0 (length word)
 
--- The words of a line: without one CR at its end, and then without what a `#` begins, the parts between its blanks that
--- aren't empty.
+-- The words of a line: one CR at the end of the line and then its comment, from `#` on, are dropped; the words are the
+-- nonempty parts between the blanks of the rest.
 abbrev pub words : List ℕ → List (List ℕ)
-words line = filter is_some_word (slice_split is_blank (before_first is_hash (strip_carriage_return line)))
+words line = filter is_nonempty (slice_split is_blank (before_first is_hash (strip_carriage_return line)))
 
--- a row: the number of its line, from 1, and its words, of which there is one at least
+-- A row: the number of its line, from 1, and its words, at least one.
 pub record Row : Type 0 where
   pub line : ℕ
   pub words : List (List ℕ)
@@ -43,7 +43,7 @@ row_of numbered = record { line = numbered.0; words = words numbered.1 }
 abbrev pub has_words : Row → Bool
 has_words row = nat_lt 0 (length row.words)
 
--- the rows of a text in the order of their lines, and the number of its last line, which is 0 where there is none
+-- The rows of a text in the order of their lines, and the number of the last line, 0 in an empty text.
 pub record TextRows : Type 0 where
   pub rows : List Row
   pub last_line : ℕ
@@ -51,16 +51,19 @@ pub record TextRows : Type 0 where
 abbrev pub text_rows : List ℕ → TextRows
 text_rows bytes = record { rows = filter has_words (map row_of (enumerate_from 1 (lines bytes))); last_line = length (lines bytes) }
 
--- What the laws speak of: a text with a CR before each LF, lines that end in no CR, a front of whole lines, and rows of
--- words.
-abbrev pub with_returns : List ℕ → List ℕ
-with_returns bytes = flat_map (λ b. if is_line_feed b then 13 ∷ 10 ∷ [] else b ∷ []) bytes
+-- The row at an index, from 0.
+abbrev pub row_at : List Row → ℕ → Row
+row_at rows index = slice_index_or rows index (record { line = 0; words = [] })
 
-abbrev pub EndInNoReturn : List (List ℕ) → Type 0
-EndInNoReturn lines = AllByRecursion (λ line. strip_carriage_return line ≡ line) lines
+-- LAWS speak of a text with a CR before each LF, lines that do not end in a CR, a text of whole lines, and rows of words.
+abbrev pub with_carriage_returns : List ℕ → List ℕ
+with_carriage_returns bytes = flat_map (λ b. if is_line_feed b then 13 ∷ 10 ∷ [] else b ∷ []) bytes
 
-abbrev pub EndsLine : List ℕ → Type 0
-EndsLine front = (front ≡ []) ⊎ ((text : List ℕ) × (front ≡ text ++ 10 ∷ []))
+abbrev pub EndWithoutCarriageReturn : List (List ℕ) → Type 0
+EndWithoutCarriageReturn lines = AllByRecursion (λ line. strip_carriage_return line ≡ line) lines
+
+abbrev pub IsWholeLines : List ℕ → Type 0
+IsWholeLines front = (front ≡ []) ⊎ ((text : List ℕ) × (front ≡ text ++ 10 ∷ []))
 
 abbrev pub IsWord : List ℕ → Type 0
 IsWord word = (word ≢ []) × (list_any is_blank word ≡ false) × (list_any is_hash word ≡ false) × (list_any is_line_feed word ≡ false)

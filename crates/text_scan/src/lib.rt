@@ -1,5 +1,5 @@
-//! The words of a mesh file: the rows of a text from its pieces, and the numbers that words spell, with the definitions of both and
-//! their laws. Beside them the buffer of a line that is written.
+//! The words of a mesh file: the rows of a text that is fed in pieces, and the numbers that words spell, with the definitions and
+//! laws of both; and the buffer of a line to be written.
 #![tactic(auto)]
 
 mod cases;

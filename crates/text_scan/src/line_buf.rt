@@ -32,7 +32,7 @@ impl LineBuf {
         }
     }
 
-    /// Adds a text.
+    /// Appends a text.
     pub fn text(&mut self, piece: &[u8])
         requires { length self.old + length piece.now ≤ 256 }
         ensures { self.new ≡ self.old ++ piece.now }
@@ -42,7 +42,7 @@ impl LineBuf {
         self.count = end;
     }
 
-    /// Adds a number, in decimal digits, with a `-` in front of one below zero: at most 20 bytes.
+    /// Appends a number in decimal digits, with a `-` before a number below zero: at most 20 bytes.
     pub fn number(&mut self, number: i64)
         requires { length self.old + length (signed_decimal number) ≤ 256 }
         ensures bytes { self.new ≡ self.old ++ signed_decimal number }
@@ -52,7 +52,7 @@ impl LineBuf {
         self.text(buffer.format(number).as_bytes());
     }
 
-    /// Adds a count, in decimal digits: at most 20 bytes.
+    /// Appends a count in decimal digits: at most 20 bytes.
     pub fn count(&mut self, count: u64)
         requires { length self.old + length (decimal count) ≤ 256 }
         ensures bytes { self.new ≡ self.old ++ decimal count }

@@ -9,33 +9,36 @@ ghost use Rattle.text_scan.specs.Numbers as spec;
 
 use crate::faults::NumberFault;
 
-/// The most bytes of a coordinate, the most digits of a whole number, and the most millionths.
+/// The greatest number of bytes of a coordinate.
 const MOST_BYTES: usize = 64;
 
+/// The greatest number of digits of a whole number.
 const MOST_DIGITS: usize = 18;
 
+/// The greatest size of a coordinate, in millionths.
 const MOST_MILLIONTHS: u64 = 1_000_000_000_000_000;
 
-/// How many places an exponent counts.
+/// The greatest number of places that an exponent counts.
 const MOST_PLACES: u64 = 100;
 
-/// Numbers of digits are held here: more of them say no more.
+/// The greatest value that digits are given; larger values are not told apart.
 const CAP: u64 = 1_000_000_000_000_000_000;
 
-/// The whole number that `text` spells: a sign or none, and 1 to 18 digits. Anything else is `BadNumber`.
+/// The whole number that `text` spells: an optional sign and 1 to 18 digits. Other texts are `BadNumber`.
 pub fn whole(text: &[u8]) -> Result<i64, NumberFault>
     ensures { result ≡ spec.whole_of text.now }
 {
     let (minus, digits) = split_sign(text);
     if is_numeral(digits) && digits.len() <= MOST_DIGITS {
-        Ok(signed(minus, number_after(0, digits)))
+        Ok(with_sign(minus, number_after(0, digits)))
     } else {
         Err(NumberFault::BadNumber)
     }
 }
 
-/// The coordinate that `text` spells, in millionths, cut towards zero. At most 64 bytes: a sign or none, one digit or more with a
-/// point among them or none, and an exponent or none. Anything else is `BadNumber`, and more than 10^15 millionths are `CoordRange`.
+/// The coordinate that `text` spells, in millionths, truncated towards zero. A coordinate has at most 64 bytes: an optional sign, one
+/// digit or more with at most one point, and an optional exponent. Other texts are `BadNumber`; more than 10^15 millionths are
+/// `CoordRange`.
 pub fn millionths(text: &[u8]) -> Result<i64, NumberFault>
     ensures { result ≡ spec.millionths_of text.now }
 {
@@ -49,14 +52,14 @@ pub fn millionths(text: &[u8]) -> Result<i64, NumberFault>
     let Some(places) = places(parts.whole.len() + 6, parts.exponent) else {
         return Err(NumberFault::BadNumber);
     };
-    let size = first_places(places, parts.whole, parts.fraction);
+    let size = leading_value(places, parts.whole, parts.fraction);
     if size > MOST_MILLIONTHS {
         return Err(NumberFault::CoordRange);
     }
-    Ok(signed(parts.minus, size))
+    Ok(with_sign(parts.minus, size))
 }
 
-/// The parts of a coordinate, cut at the sign, the exponent mark and the point, whatever they are.
+/// The parts of a coordinate's text, split at the sign, the exponent mark and the point. They are not tested.
 #[derive(Clone, Copy)]
 struct Parts<'a> {
     minus: bool,
@@ -67,10 +70,11 @@ struct Parts<'a> {
 
 fn parts_of(text: &[u8]) -> Parts<'_>
     ensures minus { result.minus ≡ starts_with_minus text.now }
-    ensures whole { result.whole.now ≡ before_first spec.is_point (spec.mantissa text.now) }
+    ensures whole { result.whole.now ≡ before_first spec.is_decimal_point (spec.mantissa text.now) }
     ensures fraction { result.fraction.now ≡ spec.fraction text.now }
     ensures exponent { option_map (λ rest. rest.now) result.exponent
-        ≡ (if list_any spec.is_exponent_mark text.now then Some (spec.exponent text.now) else None) }
+        ≡ (if list_any spec.is_exponent_mark text.now then Some (spec.exponent text.now)
+        else None) }
 {
     let (minus, unsigned) = split_sign(text);
     let (mantissa, exponent) = split_exponent(unsigned);
@@ -83,7 +87,7 @@ fn parts_of(text: &[u8]) -> Parts<'_>
     }
 }
 
-/// Whether a minus stands first, and what follows the sign.
+/// Whether the text begins with a minus, and the text without its sign.
 fn split_sign(text: &[u8]) -> (bool, &[u8])
     ensures minus { result.0 ≡ starts_with_minus text.now }
     ensures rest { result.1.now ≡ without_leading_sign text.now }
@@ -95,38 +99,39 @@ fn split_sign(text: &[u8]) -> (bool, &[u8])
     }
 }
 
-/// Where the first exponent mark stands.
-fn exponent_place(text: &[u8]) -> Option<usize>
+/// The index of the first exponent mark.
+fn exponent_mark_position(text: &[u8]) -> Option<usize>
     ensures { result ≡ position spec.is_exponent_mark text.now }
 {
     text.iter().position(|b| *b == b'e' || *b == b'E')
 }
 
-/// What stands before the first exponent mark, and behind it where there is one.
+/// The text before the first exponent mark, and the text after it where there is one.
 fn split_exponent(text: &[u8]) -> (&[u8], Option<&[u8]>)
     ensures before { result.0.now ≡ before_first spec.is_exponent_mark text.now }
-    ensures behind { option_map (λ rest. rest.now) result.1
-        ≡ (if list_any spec.is_exponent_mark text.now then Some (after_first spec.is_exponent_mark text.now) else None) }
+    ensures after { option_map (λ rest. rest.now) result.1
+        ≡ (if list_any spec.is_exponent_mark text.now
+        then Some (after_first spec.is_exponent_mark text.now) else None) }
 {
-    match exponent_place(text) {
+    match exponent_mark_position(text) {
         Some(place) => (&text[..place], Some(&text[place + 1..])),
         None => (text, None),
     }
 }
 
-/// Where the first point stands.
-fn point_place(text: &[u8]) -> Option<usize>
-    ensures { result ≡ position spec.is_point text.now }
+/// The index of the first point.
+fn point_position(text: &[u8]) -> Option<usize>
+    ensures { result ≡ position spec.is_decimal_point text.now }
 {
     text.iter().position(|b| *b == b'.')
 }
 
-/// What stands before the first point and behind it.
+/// The text before the first point and the text after it.
 fn split_point(text: &[u8]) -> (&[u8], &[u8])
-    ensures before { result.0.now ≡ before_first spec.is_point text.now }
-    ensures behind { result.1.now ≡ after_first spec.is_point text.now }
+    ensures before { result.0.now ≡ before_first spec.is_decimal_point text.now }
+    ensures after { result.1.now ≡ after_first spec.is_decimal_point text.now }
 {
-    match point_place(text) {
+    match point_position(text) {
         Some(place) => (&text[..place], &text[place + 1..]),
         None => (text, &[]),
     }
@@ -144,14 +149,14 @@ fn is_numeral(text: &[u8]) -> bool
     !text.is_empty() && all_digits(text)
 }
 
-/// Whether two texts are digits alone, and one at least.
+/// Whether two texts are digits only, with at least one digit.
 fn are_digits(front: &[u8], back: &[u8]) -> bool
     ensures { result ≡ spec.is_numeral (front.now ++ back.now) }
 {
     front.len() + back.len() > 0 && all_digits(front) && all_digits(back)
 }
 
-/// The number that the digits write when they follow those of `front`, or the cap.
+/// The number that the digits of `front` followed by these digits write, or the cap.
 fn number_after(front: u64, digits: &[u8]) -> u64
     requires low { front ≤ 10 ^ 18 }
     requires digits { list_all is_ascii_digit digits.now ≡ true }
@@ -164,12 +169,13 @@ fn number_after(front: u64, digits: &[u8]) -> u64
     value
 }
 
-/// How many places stand before a point that an exponent moves, where `point` stood before it, and `None` where the exponent
-/// is spelled wrong. It counts up to 100 places.
+/// The number of digits before the point after an exponent moves it, from `point` digits without one; `None` where the exponent
+/// is malformed. The exponent counts up to 100 places.
 fn places(point: usize, exponent: Option<&[u8]>) -> Option<usize>
     requires { point ≤ 100 }
     ensures none { IfNone exponent.entry (result ≡ Some point) }
-    ensures some { IfSome exponent.entry (λ text. result ≡ (if spec.is_numeral (without_leading_sign text.now)
+    ensures some { IfSome exponent.entry (λ text. result
+        ≡ (if spec.is_numeral (without_leading_sign text.now)
         then Some (if starts_with_minus text.now
         then point - min (digits_value 10 (without_leading_sign text.now)) 100
         else point + min (digits_value 10 (without_leading_sign text.now)) 100)
@@ -191,12 +197,13 @@ fn places(point: usize, exponent: Option<&[u8]>) -> Option<usize>
     })
 }
 
-/// The number of the first `places` digits of two texts, with zeros behind them where they are fewer, or the cap.
-fn first_places(places: usize, whole: &[u8], fraction: &[u8]) -> u64
+/// The number that the first `places` digits of two texts write, padded with zeros on the right, or the cap.
+fn leading_value(places: usize, whole: &[u8], fraction: &[u8]) -> u64
     requires few { places ≤ 1000 }
     requires whole { list_all is_ascii_digit whole.now ≡ true }
     requires fraction { list_all is_ascii_digit fraction.now ≡ true }
-    ensures { result ≡ min (digits_value 10 (take places (whole.now ++ fraction.now)) * 10 ^ (places - length (whole.now ++ fraction.now))) (10 ^ 18) }
+    ensures { result ≡ min (digits_value 10 (take places (whole.now ++ fraction.now))
+        * 10 ^ (places - length (whole.now ++ fraction.now))) (10 ^ 18) }
 {
     let front = &whole[..places.min(whole.len())];
     let left = places - front.len();
@@ -208,8 +215,8 @@ fn first_places(places: usize, whole: &[u8], fraction: &[u8]) -> u64
         .min(CAP)
 }
 
-/// The number of that size with its sign.
-fn signed(minus: bool, size: u64) -> i64
+/// The number of this size, negative where `minus` is set.
+fn with_sign(minus: bool, size: u64) -> i64
     requires { size ≤ 10 ^ 18 }
     ensures { result ≡ (if minus then neg_ℤ (pos size) else pos size) }
 {

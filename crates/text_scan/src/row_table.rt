@@ -1,22 +1,21 @@
 ghost use Rattle.std.specs.Prelude.{◌≡◌, ◌+◌, ◌<◌, ◌≤◌, [], ◌∷◌, ◌++◌, OnOk, Some, length, map, slice_get, slice_index};
 ghost use Rattle.liszt_base.specs.Cuts.{start_at};
 ghost use Rattle.std.specs.List.{filter};
-ghost use Rattle.text_scan.specs.Rows.{words, has_words};
-ghost use Rattle.text_scan.specs.Tables.{row_at};
+ghost use Rattle.text_scan.specs.Rows.{row_at, words, has_words};
 
 use crate::pieces::{content, next_word};
 use liszt_base::{NoMemory, PlainLists};
 use std::alloc::Global;
 use std::marker::Model;
 
-/// Where a row ends: its line, and how many words there are up to its last one.
+/// The end of a row: the number of its line, and the number of words up to the last word of the row.
 #[derive(Clone, Copy, Debug)]
 pub struct RowEnd {
     line: u32,
     end: usize,
 }
 
-/// Rows, and the words of a row that isn't closed yet. Contracts see both lists.
+/// Closed rows, and the words of a row that is still open. Contracts see both lists.
 #[derive(Debug, Drop)]
 pub struct RowTable {
     words: PlainLists<u8>,
@@ -27,12 +26,12 @@ pub struct RowTable {
 impl Model for RowTable {
     ghost use Rattle.std.specs.Prelude.{◌≤◌, length, map, drop};
     ghost use Rattle.liszt_base.specs.Cuts.{cut, AreEnds};
-    ghost use Rattle.text_scan.specs.Tables.{OpenRows, rows_in};
+    ghost use Rattle.text_scan.specs.Internal.OpenRows.{OpenRows, rows_of_ends};
 
     ghost Value = { OpenRows };
 
     ghost view = { λ a. record {
-      rows = rows_in a.ends.items (cut 0 a.words (map (λ e. e.end) a.ends.items));
+      rows = rows_of_ends a.ends.items (cut 0 a.words (map (λ e. e.end) a.ends.items));
       last = drop a.closed a.words;
     } };
 
@@ -51,16 +50,24 @@ impl RowTable {
         }
     }
 
-    /// Adds a word to the row that isn't closed.
+    /// Adds a word to the open row.
     fn push_word(&mut self, word: &[u8]) -> Result<(), NoMemory>
-        ensures ok { OnOk result (self.new ≡ record { rows = self.old.rows; last = self.old.last ++ word.now ∷ [] }) }
+        ensures ok { OnOk result (self.new ≡ record {
+          rows = self.old.rows;
+          last = self.old.last
+              ++ word.now ∷ [];
+        }) }
     {
         self.words.push(word)
     }
 
-    /// Adds the words of a line to the row that isn't closed.
+    /// Adds the words of a line to the open row.
     pub fn push_line(&mut self, line: &[u8]) -> Result<(), NoMemory>
-        ensures ok { OnOk result (self.new ≡ record { rows = self.old.rows; last = self.old.last ++ words line.now }) }
+        ensures ok { OnOk result (self.new ≡ record {
+          rows = self.old.rows;
+          last = self.old.last
+              ++ words line.now;
+        }) }
     {
         let mut text = content(line);
         while let Some((word, rest)) = next_word(text) {
@@ -70,10 +77,11 @@ impl RowTable {
         Ok(())
     }
 
-    /// Closes the row, where it has a word.
+    /// Closes the open row where it has a word.
     pub fn close(&mut self, line: u32) -> Result<(), NoMemory>
         ensures ok { OnOk result (self.new ≡ record {
-          rows = self.old.rows ++ filter has_words (record { line = line; words = self.old.last } ∷ []);
+          rows = self.old.rows ++ filter has_words
+              (record { line = line; words = self.old.last } ∷ []);
           last = [];
         }) }
     {
@@ -85,7 +93,7 @@ impl RowTable {
         Ok(())
     }
 
-    /// How many rows are closed.
+    /// The number of closed rows.
     pub fn len(&self) -> usize
         ensures { result ≡ length self.now.rows }
     {
@@ -100,7 +108,7 @@ impl RowTable {
         self.ends[place].line
     }
 
-    /// How many words a row has.
+    /// The number of words of a row.
     pub fn words(&self, place: usize) -> usize
         requires { place < length self.now.rows }
         ensures { result ≡ length (row_at self.now.rows place).words }
@@ -120,7 +128,7 @@ impl RowTable {
     }
 }
 
-/// The numbers of the first word of a row, and of the first word behind it.
+/// The indices of the first word of a row and of the first word after the row.
 fn span(ends: &[RowEnd], place: usize) -> (usize, usize)
     requires { place < length ends.now }
     ensures start { result.0 ≡ start_at 0 (map (λ e. e.end) ends.now) place }

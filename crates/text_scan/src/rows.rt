@@ -1,6 +1,6 @@
 ghost use Rattle.std.specs.Prelude.{◌≡◌, ◌==◌, ℕ, ◌+◌, ◌<◌, ◌^◌, List, [], ◌++◌, OnOk, OnErr, IfOk, Some, length, slice_get};
-ghost use Rattle.text_scan.specs.Rows.{text_rows};
-ghost use Rattle.text_scan.specs.Tables.{row_at, fed, StandsFor};
+ghost use Rattle.text_scan.specs.Rows.{row_at, text_rows};
+ghost use Rattle.text_scan.specs.Scanners.{Denotes, fed_length};
 
 use crate::pieces::split_at_byte;
 use crate::row_table::RowTable;
@@ -8,7 +8,7 @@ use liszt_base::{ByteList, NoMemory};
 use std::alloc::Global;
 use std::marker::Model;
 
-/// The rows of a text: the number of each one's line and its words, and the number of the last line.
+/// The rows of a text: of each row the number of its line and its words, and the number of the text's last line.
 #[derive(Debug, Drop)]
 pub struct Rows {
     table: RowTable,
@@ -24,7 +24,7 @@ impl Model for Rows {
 }
 
 impl Rows {
-    /// How many rows there are.
+    /// The number of rows.
     pub fn len(&self) -> usize
         ensures { result ≡ length self.now.rows }
     {
@@ -38,7 +38,7 @@ impl Rows {
         self.table.len() == 0
     }
 
-    /// The number of a row's line, from 1.
+    /// The number of a row's line, from 1. Rows are numbered from 0.
     pub fn line(&self, place: usize) -> u32
         requires { place < length self.now.rows }
         ensures { result ≡ (row_at self.now.rows place).line }
@@ -46,7 +46,7 @@ impl Rows {
         self.table.line(place)
     }
 
-    /// How many words a row has, one at least.
+    /// The number of words of a row, at least one.
     pub fn words(&self, place: usize) -> usize
         requires { place < length self.now.rows }
         ensures { result ≡ length (row_at self.now.rows place).words }
@@ -71,8 +71,8 @@ impl Rows {
     }
 }
 
-/// A scanner that takes a text piece by piece and gives its rows. It keeps the number of bytes that it was fed, fewer than 2^32,
-/// and stands for the text of that length that the pieces make.
+/// A scanner that is fed a text piece by piece and gives its rows. It keeps the number of bytes that it was fed, fewer than 2^32,
+/// and denotes the concatenation of the pieces.
 #[derive(Debug, Drop)]
 pub struct Lines {
     alloc: Global,
@@ -92,8 +92,8 @@ impl Model for Lines {
 impl Lines {
     /// A scanner of the empty text.
     pub fn new(alloc: Global) -> Lines
-        ensures fed { fed result ≡ 0 }
-        ensures stands { StandsFor result [] }
+        ensures fed_length { fed_length result ≡ 0 }
+        ensures denotes { Denotes result [] }
     {
         Lines {
             alloc,
@@ -101,11 +101,13 @@ impl Lines {
         }
     }
 
-    /// Takes a piece more. After a refusal the scanner is unchanged.
+    /// Appends a piece. After an error the scanner is unchanged.
     pub fn feed(&mut self, piece: &[u8]) -> Result<(), NoMemory>
-        requires { fed self.old + length piece.now < 2 ^ 32 }
-        ensures fed { OnOk result (fed self.new ≡ fed self.old + length piece.now) }
-        ensures stands { OnOk result ((bytes : List ℕ) → StandsFor self.old bytes → StandsFor self.new (bytes ++ piece.now)) }
+        requires { fed_length self.old + length piece.now < 2 ^ 32 }
+        ensures fed_length { OnOk result (fed_length self.new
+            ≡ fed_length self.old + length piece.now) }
+        ensures denotes { OnOk result ((bytes : List ℕ) → Denotes self.old bytes
+            → Denotes self.new (bytes ++ piece.now)) }
         ensures err { OnErr result (self.new ≡ self.old) }
     {
         self.bytes.extend(piece)
@@ -113,13 +115,14 @@ impl Lines {
 
     /// The rows of the text.
     pub fn finish(self) -> Result<Rows, NoMemory>
-        ensures { IfOk result (λ rows. (bytes : List ℕ) → StandsFor self bytes → rows ≡ text_rows bytes) }
+        ensures { IfOk result (λ rows. (bytes : List ℕ) → Denotes self bytes
+            → rows ≡ text_rows bytes) }
     {
         rows_of(self.alloc, self.bytes.as_slice())
     }
 }
 
-/// The rows of a whole text of fewer than 2^32 bytes, as the scanner gives them whatever the pieces.
+/// The rows of a whole text of fewer than 2^32 bytes, the same that a scanner gives.
 pub fn rows_of(alloc: Global, bytes: &[u8]) -> Result<Rows, NoMemory>
     requires { length bytes.now < 2 ^ 32 }
     ensures { IfOk result (λ rows. rows ≡ text_rows bytes.now) }

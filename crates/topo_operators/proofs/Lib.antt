@@ -1,5 +1,6 @@
-pub mod Along
-pub mod Pointing
-pub mod Results
-pub mod Swapped
-pub mod Turns
+pub mod EdgeAlongLemmas
+pub mod FaceCycleLemmas
+pub mod OrientationLemmas
+pub mod ResultLemmas
+pub mod SideSwapLemmas
+pub mod TowardsLemmas

@@ -1,3 +1,3 @@
+pub mod Internal
 pub mod Operands
 pub mod Operators
-pub mod Visits

@@ -10,17 +10,18 @@ use Rattle.liszt_base.specs.declared.elements.Kind.{Kind}
 use Rattle.liszt_base.specs.declared.elements.Kind.TheVariants.{Vertex, Edge, Face, Cell}
 use Rattle.liszt_base.specs.declared.elements.SetName.{SetName}
 use Rattle.liszt_base.specs.declared.elements.SetName.TheVariants.{Vertices, Edges, Faces, Cells, EdgesCcw}
-use Rattle.mesh_topology.specs.Elements.{count, corners, id_of_corners, near, sides, begun_at, steps, face_cycle}
+use Rattle.mesh_topology.specs.Elements.{count, corners, id_of_corners, near, sides, rotation_from, steps, face_cycle}
 
--- An element as an operator takes it and gives it; nil is `None`.
+-- An element is an operand or a result with its orientation; nil is `None`.
 abbrev pub unflipped : Kind → ℕ → Elem
 unflipped kind id = record { kind = kind; id = id; flipped = false }
 
-abbrev pub turned : Elem → Elem
-turned x = record { kind = x.kind; id = x.id; flipped = not x.flipped }
+-- the element in its other orientation
+abbrev pub reversed : Elem → Elem
+reversed x = record { kind = x.kind; id = x.id; flipped = not x.flipped }
 
--- ENDS. An unflipped edge goes from its lesser corner, the tail, to the other, the head. Of an unflipped face the inside is
--- the first of the cells beside it, and the outside the second, or nil. Flipped it is the other way round.
+-- ENDS AND SIDES. An unflipped edge goes from its smaller corner, the tail, to its larger one, the head. The inside of an
+-- unflipped face is the first of the cells beside it, and its outside the second, or nil. Flipping swaps them.
 abbrev pub vertex_at : MeshLists → Elem → ℕ → Option Elem
 vertex_at mesh edge place = option_map (unflipped Vertex) (slice_get (corners mesh Edge edge.id) place)
 
@@ -52,11 +53,11 @@ inside mesh x = option_and_then (inside_of mesh) x
 abbrev pub outside : MeshLists → Option Elem → Option Elem
 outside mesh x = option_and_then (outside_of mesh) x
 
--- an edge reversed, or a face with its cycle reversed and its sides swapped
+-- the other orientation of an edge or a face
 abbrev pub flip : Option Elem → Option Elem
-flip x = option_map turned x
+flip x = option_map reversed x
 
--- elements are the same where their kind and id are, whatever their orientation, and nil is the same as nil alone
+-- Two elements are the same if their kinds and ids are equal, in any orientations. Nil is the same as nil, and as no element.
 abbrev pub same : Option Elem → Option Elem → Bool
 same None None = true
 same (Some x) (Some y) = is_kind x.kind y.kind && (x.id == y.id)
@@ -65,7 +66,7 @@ same _ _ = false
 abbrev pub valid : Option Elem → Bool
 valid x = is_some x
 
--- what an orientation points to: an edge to its head, a face to its outside
+-- the element to which an orientation points: the head of an edge, the outside of a face
 abbrev pub points_to : MeshLists → Elem → Option Elem
 points_to mesh x = orientation x.kind where
   orientation : Kind → Option Elem
@@ -75,33 +76,33 @@ points_to mesh x = orientation x.kind where
 
 -- both orientations of an edge or a face
 abbrev pub orientations : Elem → List Elem
-orientations x = unflipped x.kind x.id ∷ turned (unflipped x.kind x.id) ∷ []
+orientations x = unflipped x.kind x.id ∷ reversed (unflipped x.kind x.id) ∷ []
 
--- the orientation of x that points to this element, or nil where neither does
+-- the orientation of `x` that points to `to`, or nil if neither does
 abbrev pub towards_of : MeshLists → Elem → Elem → Option Elem
 towards_of mesh x to = find (λ orientation. same (points_to mesh orientation) (Some to)) (orientations x)
 
 abbrev pub towards : MeshLists → Option Elem → Option Elem → Option Elem
 towards mesh x to = option_and_then (λ x'. option_and_then (towards_of mesh x') to) x
 
--- SETS. The edges of a face in its cycle's order from the least corner on, each oriented along the cycle; a flipped face
--- has the cycle reversed.
+-- SETS. The cycle of a face begins with its smallest corner; flipping the face reverses it. Its edges are in the order of the
+-- cycle, each oriented along it.
 abbrev pub cycle_of : MeshLists → Elem → List ℕ
 cycle_of mesh face =
-    if face.flipped then begun_at (slice_index (corners mesh Face face.id) 0) (reverse (face_cycle mesh face.id)) else face_cycle mesh face.id
+    if face.flipped then rotation_from (slice_index (corners mesh Face face.id) 0) (reverse (face_cycle mesh face.id)) else face_cycle mesh face.id
 
 abbrev pub edge_along : MeshLists → ℕ × ℕ → Elem
 edge_along mesh step =
     record { kind = Edge; id = unwrap_or (id_of_corners mesh Edge (step.0 ∷ step.1 ∷ [])) 0; flipped = nat_lt step.1 step.0 }
 
--- What the law speaks of: an edge of the mesh that goes from one vertex to another.
+-- an edge of the mesh that goes from the first vertex of a step to the second
 pub record GoesAlong (mesh : MeshLists) (step : ℕ × ℕ) (edge : Elem) : Type 0 where
   pub is_edge : edge.kind ≡ Edge
   pub in_range : edge.id < count mesh Edge
   pub from : tail mesh (Some edge) ≡ Some (unflipped Vertex step.0)
   pub to : head mesh (Some edge) ≡ Some (unflipped Vertex step.1)
 
--- the members of a set of an element: those near it, unflipped, by ascending id, or the edges of its cycle
+-- the members of a set of an element: the elements near it, unflipped, by ascending id; for `edges_ccw` the edges of its cycle
 abbrev pub members : MeshLists → SetName → Elem → List Elem
 members mesh Vertices x = map (unflipped Vertex) (near mesh x.kind x.id Vertex)
 members mesh Edges x = map (unflipped Edge) (near mesh x.kind x.id Edge)

@@ -1,5 +1,5 @@
-//! The oriented operators on the elements of a mesh and the sets of an element: their definitions, with their laws, and the
-//! functions that compute them.
+//! The oriented operators on the elements of a mesh and the sets of an element: the definitions, laws of these, and the functions
+//! that compute them.
 #![tactic(auto)]
 
 mod cases;

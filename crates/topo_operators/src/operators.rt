@@ -1,14 +1,14 @@
-//! The operators on the elements of a mesh. Of nil, which is `None`, each is nil.
+//! The operators on the elements of a mesh. Nil is `None`, and each operator of nil is nil.
 
 ghost use Rattle.std.specs.Prelude.{◌≡◌};
 ghost use Rattle.liszt_base.specs.declared.elements.Kind.TheVariants.{Vertex, Edge, Face, Cell};
-ghost use Rattle.topo_operators.specs.Operands.{CanPoint, IsElement, IsOf};
-ghost use Rattle.topo_operators.specs.Operators.{unflipped as Unflipped, turned as Turned, tail as Tail, head as Head, inside as Inside, outside as Outside, flip as Flip, same as Same, valid as Valid, points_to as PointsTo, towards as Towards};
+ghost use Rattle.topo_operators.specs.Operands.{AreTowardsOperands, IsElement, IsNilOrElement};
+ghost use Rattle.topo_operators.specs.Operators.{unflipped as Unflipped, reversed as Reversed, tail as Tail, head as Head, inside as Inside, outside as Outside, flip as Flip, same as Same, valid as Valid, points_to as PointsTo, towards as Towards};
 
 use liszt_base::{Elem, Kind};
 use mesh_topology::Mesh;
 
-/// An element in the orientation that its kind has by itself.
+/// An element, unflipped.
 pub(crate) fn unflipped(kind: Kind, id: u32) -> Elem
     ensures { result ≡ Unflipped kind id }
 {
@@ -19,9 +19,9 @@ pub(crate) fn unflipped(kind: Kind, id: u32) -> Elem
     }
 }
 
-/// An element in its other orientation.
-fn turned(x: Elem) -> Elem
-    ensures { result ≡ Turned x }
+/// The element in its other orientation.
+fn reversed(x: Elem) -> Elem
+    ensures { result ≡ Reversed x }
 {
     Elem {
         kind: x.kind,
@@ -30,9 +30,9 @@ fn turned(x: Elem) -> Elem
     }
 }
 
-/// Where an edge comes from: its lesser corner, or the other one where it is flipped.
+/// The vertex from which an edge goes: its smaller corner, or its larger one if the edge is flipped.
 pub fn tail(m: &Mesh, x: Option<Elem>) -> Option<Elem>
-    requires { IsOf m.now Edge x }
+    requires { IsNilOrElement m.now Edge x }
     ensures { result ≡ Tail m.now x }
 {
     let edge = x?;
@@ -41,17 +41,17 @@ pub fn tail(m: &Mesh, x: Option<Elem>) -> Option<Elem>
     Some(unflipped(Kind::Vertex, id))
 }
 
-/// Where an edge goes to.
+/// The vertex to which an edge goes.
 pub fn head(m: &Mesh, x: Option<Elem>) -> Option<Elem>
-    requires { IsOf m.now Edge x }
+    requires { IsNilOrElement m.now Edge x }
     ensures { result ≡ Head m.now x }
 {
     tail(m, flip(m, x))
 }
 
-/// The cell at the inside of a face: of the cells beside it the first, or the second, if any, where it is flipped.
+/// The cell at the inside of a face: the first of the cells beside it, or the second, if any, if the face is flipped.
 pub fn inside(m: &Mesh, x: Option<Elem>) -> Option<Elem>
-    requires { IsOf m.now Face x }
+    requires { IsNilOrElement m.now Face x }
     ensures { result ≡ Inside m.now x }
 {
     let face = x?;
@@ -62,20 +62,20 @@ pub fn inside(m: &Mesh, x: Option<Elem>) -> Option<Elem>
 
 /// The cell at the outside of a face, if any.
 pub fn outside(m: &Mesh, x: Option<Elem>) -> Option<Elem>
-    requires { IsOf m.now Face x }
+    requires { IsNilOrElement m.now Face x }
     ensures { result ≡ Outside m.now x }
 {
     inside(m, flip(m, x))
 }
 
-/// The other orientation of an edge or a face. It takes the mesh as the other operators do, and reads nothing of it.
+/// The other orientation of an edge or a face. The mesh is a parameter as for the other operators, and is not read.
 pub fn flip(_m: &Mesh, x: Option<Elem>) -> Option<Elem>
     ensures { result ≡ Flip x }
 {
-    Some(turned(x?))
+    Some(reversed(x?))
 }
 
-/// What an edge or a face points to: its head, or its outside.
+/// The element to which an orientation points: the head of an edge, the outside of a face.
 fn points_to(m: &Mesh, x: Elem) -> Option<Elem>
     requires edge { x.kind ≡ Edge → IsElement m.now Edge x }
     requires face { x.kind ≡ Face → IsElement m.now Face x }
@@ -88,15 +88,15 @@ fn points_to(m: &Mesh, x: Elem) -> Option<Elem>
     }
 }
 
-/// The orientation of an edge that goes to a vertex, or of a face whose outside is a cell; nil where neither does.
+/// The orientation of an edge whose head is a vertex, or of a face whose outside is a cell; nil if neither points there.
 pub fn towards(m: &Mesh, x: Option<Elem>, to: Option<Elem>) -> Option<Elem>
-    requires { CanPoint m.now x to }
+    requires { AreTowardsOperands m.now x to }
     ensures { result ≡ Towards m.now x to }
 {
     let x = x?;
     let to = to?;
     let along = unflipped(x.kind, x.id);
-    let back = turned(along);
+    let back = reversed(along);
     if same(points_to(m, along), Some(to)) {
         Some(along)
     } else if same(points_to(m, back), Some(to)) {
@@ -106,7 +106,7 @@ pub fn towards(m: &Mesh, x: Option<Elem>, to: Option<Elem>) -> Option<Elem>
     }
 }
 
-/// Whether two are one element, whatever their orientation.
+/// Whether two are the same element, in any orientations, or both nil.
 pub fn same(x: Option<Elem>, y: Option<Elem>) -> bool
     ensures { result ≡ Same x y }
 {
@@ -117,14 +117,14 @@ pub fn same(x: Option<Elem>, y: Option<Elem>) -> bool
     }
 }
 
-/// Whether this is an element, and not nil.
+/// Whether this is an element and not nil.
 pub fn valid(x: Option<Elem>) -> bool
     ensures { result ≡ Valid x }
 {
     x.is_some()
 }
 
-/// An element's number among those of its kind.
+/// The id of an element among those of its kind, from 0.
 pub fn id_of(x: Elem) -> u32
     ensures { result ≡ x.id }
 {

@@ -1,15 +1,14 @@
-//! The sets of an element, each as an iterator over its members.
+//! The sets of an element, each an iterator over its members.
 
 ghost use Rattle.std.specs.Prelude.{◌≡◌, ◌<◌, ◌==◌, true, [], map, unwrap_or, slice_index};
 ghost use Rattle.std.specs.List.{All, find};
 ghost use Rattle.std.specs.Iterator.{YieldsFirst};
 ghost use Rattle.liszt_base.specs.Corners.{is_in, includes, same_members, induced_cycles};
 ghost use Rattle.liszt_base.specs.declared.elements.Kind.TheVariants.{Vertex, Edge, Face, Cell};
-ghost use Rattle.mesh_topology.specs.Elements.{count, corners, near as Near, rotations, steps};
-ghost use Rattle.mesh_topology.specs.Tables.{has_near};
-ghost use Rattle.topo_operators.specs.Operands.{CanVisit, IsElement};
+ghost use Rattle.mesh_topology.specs.Elements.{count, corners, near as Near, rotations, steps, has_near};
+ghost use Rattle.topo_operators.specs.Operands.{IsSetOperand, IsElement};
 ghost use Rattle.topo_operators.specs.Operators.{cycle_of as CycleOf, edge_along as EdgeAlong, members as MembersOf, unflipped as Unflipped};
-ghost use Rattle.topo_operators.specs.Visits.{to_come};
+ghost use Rattle.topo_operators.specs.Internal.SetSources.{remaining_members};
 
 use crate::operators::unflipped;
 use liszt_base::{Elem, Kind, SetName};
@@ -43,7 +42,7 @@ impl<'a> NearIds<'a> {
     }
 }
 
-/// Edges along a cycle, from a place on.
+/// The edges along a cycle, from an index on.
 #[derive(Drop)]
 struct EdgesAlong {
     edges: [Elem; 3],
@@ -69,27 +68,27 @@ impl EdgesAlong {
     }
 }
 
-/// What is left of a set.
+/// The remaining members of a set.
 #[derive(Drop)]
-enum Left<'a> {
+enum SetSource<'a> {
     Near(NearIds<'a>),
     Along(EdgesAlong),
 }
 
-/// The members of a set of an element. Contracts see the list of those that are still to come.
+/// An iterator over the members of a set of an element. Contracts see the list of the remaining ones.
 #[derive(Drop)]
 pub struct SetMembers<'a> {
-    left: Left<'a>,
+    source: SetSource<'a>,
 }
 
 impl<'a> Model for SetMembers<'a> {
     ghost use Rattle.std.specs.Prelude.{List};
     ghost use Rattle.liszt_base.specs.declared.elements.Elem.{Elem as ElemOf};
-    ghost use Rattle.topo_operators.specs.Visits.{to_come};
+    ghost use Rattle.topo_operators.specs.Internal.SetSources.{remaining_members};
 
     ghost Value = { List ElemOf };
 
-    ghost view = { λ m. to_come m.left };
+    ghost view = { λ m. remaining_members m.source };
 }
 
 impl<'a> Iterator for SetMembers<'a> {
@@ -102,9 +101,9 @@ impl<'a> Iterator for SetMembers<'a> {
     ghost remaining = { item_count (λ s. s) };
 
     fn next(&mut self) -> Option<Elem> {
-        match &mut self.left {
-            Left::Near(elements) => elements.next(),
-            Left::Along(edges) => edges.next(),
+        match &mut self.source {
+            SetSource::Near(elements) => elements.next(),
+            SetSource::Along(edges) => edges.next(),
         }
     }
 }
@@ -117,7 +116,7 @@ fn is_one_of(corners: [u32; 3], x: u32) -> bool
     a == x || b == x || c == x
 }
 
-/// Whether the second three are among the first.
+/// Whether all of the second three numbers are among the first three.
 fn includes_all(xs: [u32; 3], ys: [u32; 3]) -> bool
     ensures { result ≡ includes xs ys }
 {
@@ -125,8 +124,8 @@ fn includes_all(xs: [u32; 3], ys: [u32; 3]) -> bool
     is_one_of(xs, a) && is_one_of(xs, b) && is_one_of(xs, c)
 }
 
-/// The cycle that begins at one of its three corners, where it is one.
-fn begun_at(first: u32, cycle: [u32; 3]) -> Option<[u32; 3]>
+/// The rotation of a cycle that begins with `first`, or `None` if that is not one of its corners.
+fn rotation_from(first: u32, cycle: [u32; 3]) -> Option<[u32; 3]>
     ensures { result ≡ find (λ rotation. slice_index rotation 0 == first) (rotations cycle) }
 {
     let [a, b, c] = cycle;
@@ -141,8 +140,8 @@ fn begun_at(first: u32, cycle: [u32; 3]) -> Option<[u32; 3]>
     }
 }
 
-/// The first of the four cycles of a cell's corners that goes through three corners.
-fn induced_through(corners: [u32; 3], cell: [u32; 4]) -> Option<[u32; 3]>
+/// The first of the four cycles of a cell that has these corners.
+fn induced_cycle(corners: [u32; 3], cell: [u32; 4]) -> Option<[u32; 3]>
     ensures { result ≡ find (same_members corners) (induced_cycles cell) }
 {
     let [a, b, c, d] = cell;
@@ -160,7 +159,7 @@ fn induced_through(corners: [u32; 3], cell: [u32; 4]) -> Option<[u32; 3]>
     }
 }
 
-/// The cycle of a face from its least corner on, the other way round where the face is flipped.
+/// The cycle of a face from its smallest corner on, reversed if the face is flipped.
 fn cycle_of(m: &Mesh, face: Elem) -> Option<[u32; 3]>
     requires { IsElement m.now Face face }
     ensures { unwrap_or result [] ≡ CycleOf m.now face }
@@ -168,15 +167,15 @@ fn cycle_of(m: &Mesh, face: Elem) -> Option<[u32; 3]>
     let corners = m.face_corners(face.id);
     let (side, _) = m.face_cells(face.id);
     let first = corners[0];
-    let [a, b, c] = begun_at(first, induced_through(corners, m.cell_corners(side))?)?;
+    let [a, b, c] = rotation_from(first, induced_cycle(corners, m.cell_corners(side))?)?;
     if face.flipped {
-        begun_at(first, [c, b, a])
+        rotation_from(first, [c, b, a])
     } else {
         Some([a, b, c])
     }
 }
 
-/// The edge from one vertex to another, in the orientation that goes that way.
+/// The edge between two vertices, in the orientation from the first to the second.
 fn edge_along(m: &Mesh, from: u32, to: u32) -> Elem
     requires from_vertex { from < count m.now Vertex }
     requires to_vertex { to < count m.now Vertex }
@@ -190,7 +189,7 @@ fn edge_along(m: &Mesh, from: u32, to: u32) -> Elem
 }
 
 /// The edges along a cycle.
-fn edges_of(m: &Mesh, cycle: [u32; 3]) -> EdgesAlong
+fn edges_along(m: &Mesh, cycle: [u32; 3]) -> EdgesAlong
     requires { All (λ v. v < count m.now Vertex) cycle }
     ensures { result ≡ map (EdgeAlong m.now) (steps cycle) }
 {
@@ -210,15 +209,15 @@ fn edges_ccw(m: &Mesh, face: Elem) -> EdgesAlong
 {
     m.fits_together();
     match cycle_of(m, face) {
-        Some(cycle) => edges_of(m, cycle),
+        Some(cycle) => edges_along(m, cycle),
         None => unreachable!(),
     }
 }
 
-/// The elements of a kind near an element.
+/// The elements of a kind that are near an element.
 fn elements_near<'a>(m: &'a Mesh, x: Elem, kind: Kind) -> NearIds<'a>
     requires below { x.id < count m.now x.kind }
-    requires has { has_near x.kind kind ≡ true }
+    requires kinds { has_near x.kind kind ≡ true }
     ensures { result ≡ map (Unflipped kind) (Near m.now x.kind x.id kind) }
 {
     NearIds {
@@ -227,17 +226,17 @@ fn elements_near<'a>(m: &'a Mesh, x: Elem, kind: Kind) -> NearIds<'a>
     }
 }
 
-/// The members of a set of an element.
+/// The members of a set of an element, in their order: by ascending id, or along the cycle for `edges_ccw`.
 pub fn members<'a>(m: &'a Mesh, set: SetName, x: Elem) -> SetMembers<'a>
-    requires { CanVisit m.now set x }
+    requires { IsSetOperand m.now set x }
     ensures { result ≡ MembersOf m.now set x }
 {
-    let left = match set {
-        SetName::Vertices => Left::Near(elements_near(m, x, Kind::Vertex)),
-        SetName::Edges => Left::Near(elements_near(m, x, Kind::Edge)),
-        SetName::Faces => Left::Near(elements_near(m, x, Kind::Face)),
-        SetName::Cells => Left::Near(elements_near(m, x, Kind::Cell)),
-        SetName::EdgesCcw => Left::Along(edges_ccw(m, x)),
+    let source = match set {
+        SetName::Vertices => SetSource::Near(elements_near(m, x, Kind::Vertex)),
+        SetName::Edges => SetSource::Near(elements_near(m, x, Kind::Edge)),
+        SetName::Faces => SetSource::Near(elements_near(m, x, Kind::Face)),
+        SetName::Cells => SetSource::Near(elements_near(m, x, Kind::Cell)),
+        SetName::EdgesCcw => SetSource::Along(edges_ccw(m, x)),
     };
-    SetMembers { left }
+    SetMembers { source }
 }

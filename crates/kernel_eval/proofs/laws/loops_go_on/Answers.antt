@@ -7,6 +7,6 @@ use Rattle.kernel_eval.proofs.Loops.{loop_is}
 use Rattle.kernel_eval.proofs.laws.loops_go_on.Goals as goal
 
 pub returns : goal.returns
-returns c mesh names place test body =
-    loop_is moment_turns (λ n m. refl) (traps Spent place) (in_block (body_meaning mesh names body)) (truth_in mesh names test) (λ again m. refl)
-    (keeps_in_block turns_kept (keeps_body turns_kept mesh names body (λ a t. tt {0}))) (keeps_truth_in turns_kept mesh names test (λ a t. tt {0}))
+returns c mesh environment place test body =
+    loop_is moment_turns (λ n m. refl) (traps Spent place) (in_block (body_meaning mesh environment body)) (truth_in mesh environment test) (λ again m. refl)
+    (keeps_in_block turns_kept (keeps_body turns_kept mesh environment body (λ a t. tt {0}))) (keeps_truth_in turns_kept mesh environment test (λ a t. tt {0}))

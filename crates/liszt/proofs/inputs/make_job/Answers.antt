@@ -2,8 +2,8 @@ use Rattle.std.proofs.Common.{rules, ◌≡◌, ◌≤◌, length, subst, sym, a
 use Rattle.std.specs.Option.{option_map}
 use Rattle.liszt_tree.specs.Tree.{program_tree}
 use Rattle.liszt.specs.Simple.{Simple}
-use Rattle.liszt.proofs.Simples.{found}
-use Rattle.liszt.proofs.Steps.{value_is, value_fits, job_text_is}
+use Rattle.liszt.proofs.SimpleLemmas.{found}
+use Rattle.liszt.proofs.StepLemmas.{value_is, value_fits, job_text_is}
 use Rattle.liszt.proofs.inputs.make_job.Goals as goal
 
 pub overflow_add-result : goal.overflow_add-result

@@ -5,7 +5,7 @@ use Rattle.command_words.specs.Commands.{named_by}
 use Rattle.liszt_report.specs.declared.ended.Ended.{Ended}
 use Rattle.liszt.specs.declared.job.Job.{Job}
 use Rattle.liszt.specs.Internal.Steps.{Prepares}
-use Rattle.liszt.proofs.Steps.{all_taken, made_cause, made_no_usage, made_job, ele_refused, no_usage}
+use Rattle.liszt.proofs.StepLemmas.{all_inputs, job_cause, job_no_usage, made_job, ele_refused, no_usage}
 use Rattle.liszt_tree.specs.Tree.{program_tree}
 use Rattle.liszt.proofs.inputs.prepare.Goals as goal
 
@@ -46,14 +46,14 @@ returns-clause-answers g c files h =
     let second = c.in_ok-points.ensures.answers files h₁ in
     let h₂ = c.in_ok-points.ensures.contents ∙ h₁ in
     let third = c.in_ok-mesh.ensures.answers files h₂ in
-    all_taken c.args.words.now files _ (program_tree c.in_ok-program.program) c.in_ok-points.points c.in_ok-mesh.mesh c.make_job.result _ _ _ _ command first second third c.make_job.ensures
+    all_inputs c.args.words.now files _ (program_tree c.in_ok-program.program) c.in_ok-points.points c.in_ok-mesh.mesh c.make_job.result _ _ _ _ command first second third c.make_job.ensures
 
 pub returns-clause-cause : goal.returns-clause-cause
-returns-clause-cause g c = made_cause _ _ (program_tree c.in_ok-program.program) c.in_ok-mesh.mesh c.make_job.result c.make_job.ensures
+returns-clause-cause g c = job_cause _ _ (program_tree c.in_ok-program.program) c.in_ok-mesh.mesh c.make_job.result c.make_job.ensures
     (c.in_ok-mesh.ensures.cause ∙ c.in_ok-points.ensures.cause ∙ c.in_ok-program.ensures.cause)
 
 pub returns-clause-only : goal.returns-clause-only
-returns-clause-only g c h = absurd (made_no_usage (program_tree c.in_ok-program.program) c.in_ok-mesh.mesh c.make_job.result c.make_job.ensures h)
+returns-clause-only g c h = absurd (job_no_usage (program_tree c.in_ok-program.program) c.in_ok-mesh.mesh c.make_job.result c.make_job.ensures h)
 
 pub returns-clause-job : goal.returns-clause-job
 returns-clause-job g c = made_job (program_tree c.in_ok-program.program) c.in_ok-mesh.mesh c.make_job.result c.make_job.ensures

@@ -1,5 +1,5 @@
 use Rattle.std.proofs.Common.{refl, inl, inr, ap, Err}
-use Rattle.liszt.proofs.Steps.{lost_at}
+use Rattle.liszt.proofs.StepLemmas.{lost_at}
 use Rattle.liszt.proofs.inputs.read_bytes.Goals as goal
 
 pub returns-in-Ok-clause-answers : goal.returns-in-Ok-clause-answers

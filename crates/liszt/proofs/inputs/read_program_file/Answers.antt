@@ -4,7 +4,7 @@ use Rattle.liszt_base.specs.declared.answers.Input.TheVariants.{Program}
 use Rattle.liszt_report.specs.Endings.{program_ending}
 use Rattle.liszt.specs.Expected.{IsProgramFault, ProgramResult}
 use Rattle.liszt.specs.Internal.Steps.{IsItself, as_tree}
-use Rattle.liszt.proofs.Steps.{step_failed}
+use Rattle.liszt.proofs.StepLemmas.{step_failed}
 use Rattle.liszt.proofs.inputs.read_program_file.Goals as goal
 
 pub returns-in_err-read_program-clause-answers : goal.returns-in_err-read_program-clause-answers

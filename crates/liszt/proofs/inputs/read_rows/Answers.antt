@@ -1,7 +1,7 @@
 use Rattle.std.proofs.Common.{ap, ◌∙◌}
 use Rattle.text_scan.specs.Rows.{text_rows}
 use Rattle.liszt.specs.Internal.Steps.{IsItself, AreItsRows}
-use Rattle.liszt.proofs.Steps.{step_value}
+use Rattle.liszt.proofs.StepLemmas.{step_value}
 use Rattle.liszt.proofs.inputs.read_rows.Goals as goal
 
 pub returns-clause-answers : goal.returns-clause-answers

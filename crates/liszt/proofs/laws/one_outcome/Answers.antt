@@ -1,4 +1,4 @@
-use Rattle.liszt.proofs.Expected.{one_expected}
+use Rattle.liszt.proofs.OutcomeLemmas.{one_expected}
 use Rattle.liszt.proofs.laws.one_outcome.Goals as goal
 
 pub returns : goal.returns

@@ -1,4 +1,4 @@
-use Rattle.liszt.proofs.Expected.{some_expected}
+use Rattle.liszt.proofs.OutcomeLemmas.{some_expected}
 use Rattle.liszt.proofs.laws.some_outcome.Goals as goal
 
 pub returns : goal.returns

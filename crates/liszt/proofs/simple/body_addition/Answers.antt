@@ -1,5 +1,5 @@
 use Rattle.std.proofs.Common.{ap, sym, length, ◌∙◌}
-use Rattle.liszt.proofs.Simples.{none_in}
+use Rattle.liszt.proofs.SimpleLemmas.{none_in}
 use Rattle.liszt.proofs.simple.body_addition.Goals as goal
 
 pub returns-else-statements-eq1 : goal.returns-else-statements-eq1

@@ -1,5 +1,5 @@
 use Rattle.std.proofs.Common.{ap, sym, length, ◌∙◌}
-use Rattle.liszt.proofs.Simples.{none_at}
+use Rattle.liszt.proofs.SimpleLemmas.{none_at}
 use Rattle.liszt.proofs.simple.simple_of.Goals as goal
 
 pub returns-then-items-ne2 : goal.returns-then-items-ne2

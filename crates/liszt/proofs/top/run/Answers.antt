@@ -1,4 +1,4 @@
-use Rattle.liszt.proofs.Steps.{job_answers, refusal_answers, wrote_job, wrote_refusal, causes_of}
+use Rattle.liszt.proofs.StepLemmas.{job_answers, refusal_answers, wrote_job, wrote_refusal, causes_of}
 use Rattle.liszt.proofs.top.run.Goals as goal
 
 pub returns-in-Ok-clause-answers : goal.returns-in-Ok-clause-answers

@@ -1,4 +1,4 @@
-use Rattle.liszt.proofs.Expected.{complete}
+use Rattle.liszt.proofs.OutcomeLemmas.{complete}
 use Rattle.liszt.proofs.top.run_returning.Goals as goal
 
 pub returns-clause-complete : goal.returns-clause-complete

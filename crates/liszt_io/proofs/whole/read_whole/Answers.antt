@@ -1,5 +1,5 @@
 use Rattle.std.proofs.Common.{◌≡◌, ◌≤◌, ◌<◌, ◌+◌, ◌-◌, ◌∙◌, arith, ap, length, length-append, length-take}
-use Rattle.liszt_io.proofs.Pieces.{reading_begins, reading_goes_on, reading_ends, reading_fails, reading_is_long}
+use Rattle.liszt_io.proofs.PieceLemmas.{reading_begins, reading_continues, reading_ends, reading_fails, reading_is_long}
 use Rattle.liszt_io.proofs.whole.read_whole.Goals as goal
 
 pub loop-bytes-init : goal.loop-bytes-init
@@ -46,7 +46,7 @@ loop-bytes-preserved g c =
       λ files h.
           let r = loop.4 files h in
           let given = c.in-Ok-read.ensures.reads files c.args.name.now r.all (length c.loop-bytes.bytes) (loop.2 ∙ h) r.at r.contents in
-          let next = reading_goes_on files c.args.name.now c.loop-bytes.bytes c.read.new.buf count _ _ _ _ _ r given in
+          let next = reading_continues files c.args.name.now c.loop-bytes.bytes c.read.new.buf count _ _ _ _ _ r given in
           rw new_is next,
     )
 

@@ -1,6 +1,6 @@
 use Rattle.std.proofs.Common.{◌≡◌, ◌-◌, ◌<◌, ◌≤◌, length, Some}
 use Rattle.liszt_io.specs.Shelves.{Files}
-use Rattle.liszt_io.proofs.Pieces.{IsReading}
+use Rattle.liszt_io.proofs.PieceLemmas.{IsReading}
 use Rattle.liszt_io.proofs.whole.read_whole.Given as goal
 
 abbrev pub invariant-loop-bytes : goal.invariant-loop-bytes

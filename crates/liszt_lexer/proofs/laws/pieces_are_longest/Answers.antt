@@ -1,4 +1,4 @@
-use Rattle.liszt_lexer.proofs.Longest.{all_longest}
+use Rattle.liszt_lexer.proofs.LongestPieceLemmas.{all_longest}
 use Rattle.liszt_lexer.proofs.laws.pieces_are_longest.Goals as goal
 
 pub returns : goal.returns

@@ -1,4 +1,4 @@
-use Rattle.liszt_lexer.proofs.PieceList.{pieces_join}
+use Rattle.liszt_lexer.proofs.PieceLemmas.{pieces_join}
 use Rattle.liszt_lexer.proofs.laws.pieces_are_the_text.Goals as goal
 
 pub returns : goal.returns

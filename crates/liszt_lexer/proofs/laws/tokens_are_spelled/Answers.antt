@@ -1,4 +1,4 @@
-use Rattle.liszt_lexer.proofs.Findings.{all_tokens_spelled}
+use Rattle.liszt_lexer.proofs.FindingLemmas.{all_tokens_spelled}
 use Rattle.liszt_lexer.proofs.laws.tokens_are_spelled.Goals as goal
 
 pub returns : goal.returns

@@ -1,4 +1,4 @@
-use Rattle.liszt_lexer.proofs.Findings.{tokens_follow}
+use Rattle.liszt_lexer.proofs.FindingLemmas.{tokens_follow}
 use Rattle.liszt_lexer.proofs.laws.tokens_ascend.Goals as goal
 
 pub returns : goal.returns

@@ -1,5 +1,5 @@
 use Rattle.std.proofs.Common.{arith, ap, length, length-append}
-use Rattle.liszt_report.proofs.Texts.{count_short}
+use Rattle.liszt_report.proofs.TextLemmas.{count_short}
 use Rattle.liszt_report.proofs.line.append_limit.Goals as goal
 
 pub count-requires : goal.count-requires

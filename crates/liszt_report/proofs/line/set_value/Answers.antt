@@ -1,5 +1,5 @@
 use Rattle.std.proofs.Common.{arith, ap, length, length-append}
-use Rattle.liszt_report.proofs.Texts.{word_short, value_short}
+use Rattle.liszt_report.proofs.TextLemmas.{word_short, value_short}
 use Rattle.liszt_report.proofs.line.set_value.Goals as goal
 
 pub number-requires : goal.number-requires

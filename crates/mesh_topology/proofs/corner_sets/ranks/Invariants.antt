@@ -1,4 +1,4 @@
-use Rattle.mesh_topology.specs.Choices.{AreRanksSoFar}
+use Rattle.mesh_topology.specs.Internal.Combinations.{AreRanksSoFar}
 use Rattle.mesh_topology.proofs.corner_sets.ranks.Given as goal
 
 abbrev pub invariant-loop-i : goal.invariant-loop-i

@@ -1,4 +1,4 @@
-use Rattle.mesh_topology.specs.Incidence.{AreDegreesSoFar}
+use Rattle.mesh_topology.specs.Internal.Incidence.{AreDegreesSoFar}
 use Rattle.mesh_topology.proofs.incidence.degrees.Given as goal
 
 abbrev pub invariant-loop-row : goal.invariant-loop-row

@@ -1,4 +1,4 @@
-use Rattle.mesh_topology.proofs.Ranked.{ordered, members}
+use Rattle.mesh_topology.proofs.RankLemmas.{ordered, members}
 use Rattle.mesh_topology.proofs.laws.elements_are_ordered_sets.Goals as goal
 
 pub returns-clause-ordered : goal.returns-clause-ordered

@@ -1,5 +1,5 @@
 use Rattle.std.proofs.Common.{◌≡◌, ◌++◌, take, filter}
-use Rattle.mesh_topology.specs.Incidence.{is_above}
+use Rattle.mesh_topology.specs.Internal.Incidence.{is_above}
 use Rattle.mesh_topology.proofs.tables.add_above.Given as goal
 
 abbrev pub invariant-loop-corner : goal.invariant-loop-corner

@@ -1,6 +1,6 @@
 use Rattle.std.proofs.Common.{◌≡◌, ◌++◌, map, take, filter}
-use Rattle.mesh_topology.specs.Choices.{begins_with}
-use Rattle.mesh_topology.specs.Incidence.{key}
+use Rattle.mesh_topology.specs.Internal.Combinations.{begins_with}
+use Rattle.mesh_topology.specs.Internal.Incidence.{key}
 use Rattle.mesh_topology.proofs.tables.add_keys.Given as goal
 
 abbrev pub invariant-loop-triple : goal.invariant-loop-triple

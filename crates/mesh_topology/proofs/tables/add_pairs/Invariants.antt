@@ -1,5 +1,5 @@
 use Rattle.std.proofs.Common.{◌≡◌, ◌++◌, map, take}
-use Rattle.mesh_topology.specs.Incidence.{pair}
+use Rattle.mesh_topology.specs.Internal.Incidence.{pair}
 use Rattle.mesh_topology.proofs.tables.add_pairs.Given as goal
 
 abbrev pub invariant-loop-other : goal.invariant-loop-other

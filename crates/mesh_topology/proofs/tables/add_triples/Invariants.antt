@@ -1,5 +1,5 @@
 use Rattle.std.proofs.Common.{◌≡◌, ◌++◌, map, take}
-use Rattle.mesh_topology.specs.Incidence.{triple}
+use Rattle.mesh_topology.specs.Internal.Incidence.{triple}
 use Rattle.mesh_topology.proofs.tables.add_triples.Given as goal
 
 abbrev pub invariant-loop-key : goal.invariant-loop-key

@@ -3,7 +3,7 @@ use Rattle.liszt_base.specs.Corners.{IsMesh}
 use Rattle.liszt_base.specs.declared.elements.Kind.{Kind}
 use Rattle.mesh_topology.specs.Elements.{corner_lists, count}
 use Rattle.mesh_topology.specs.Meshes.{two_cells}
-use Rattle.mesh_topology.proofs.Few.{fits}
+use Rattle.mesh_topology.proofs.CountLemmas.{fits}
 use Rattle.mesh_topology.proofs.tests.built.Goals as goal
 
 two_is : IsMesh (length two_cells.points) (corner_lists two_cells)

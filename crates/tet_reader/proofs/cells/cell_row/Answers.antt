@@ -1,11 +1,11 @@
 use Rattle.std.proofs.Common.{◌+◌, ◌∷◌, [], ◌∙◌, ap, sym}
-use Rattle.text_scan.specs.Tables.{row_at}
+use Rattle.text_scan.specs.Rows.{row_at}
 use Rattle.liszt_base.specs.Corners.{are_different}
 use Rattle.liszt_base.specs.declared.answers.MeshWhat.TheVariants.{CornerTwice}
 use Rattle.tet_reader.specs.Faults.{cell_words, row_corners}
 use Rattle.tet_reader.specs.Tests.{first, unless, row_tests}
 use Rattle.tet_reader.proofs.CellRows.{holds, cell_count, corners_hold, cell_read}
-use Rattle.tet_reader.proofs.WordLists.{first_behind, first_before}
+use Rattle.tet_reader.proofs.WordLists.{first_after, first_before}
 use Rattle.tet_reader.proofs.cells.cell_row.Goals as goal
 
 pub cell_of-cell-requires : goal.cell_of-cell-requires
@@ -34,7 +34,7 @@ returns-then-are_different c =
     let same = ap (λ q. q.corners) c.cell_of-cell.ensures ∙ corners.4 in
     let different = ap are_different (sym same) ∙ (sym c.are_different.ensures ∙ c.if-are_different.true) in
     let is = cell_read c.args.header.attributes c.args.points c.args.base number words c.read_row.new.numbers c.ranges.points.fits h different in
-    let pass = first_behind tests (unless (are_different (row_corners c.args.base words)) CornerTwice ∷ []) c.in-Ok.ensures.0
+    let pass = first_after tests (unless (are_different (row_corners c.args.base words)) CornerTwice ∷ []) c.in-Ok.ensures.0
     ∙ ap (λ b. first (unless b CornerTwice ∷ [])) different in
     (pass, rw c.cell_of-cell.ensures is)
 
@@ -48,7 +48,7 @@ returns-else-are_different c =
     let corners = corners_hold c.args.header.attributes c.args.points c.args.base number words c.read_row.new.numbers c.ranges.points.fits h in
     let same = ap (λ q. q.corners) c.cell_of-cell.ensures ∙ corners.4 in
     let different = ap are_different (sym same) ∙ (sym c.are_different.ensures ∙ c.if-are_different.false) in
-    first_behind tests (unless (are_different (row_corners c.args.base words)) CornerTwice ∷ []) c.in-Ok.ensures.0
+    first_after tests (unless (are_different (row_corners c.args.base words)) CornerTwice ∷ []) c.in-Ok.ensures.0
     ∙ ap (λ b. first (unless b CornerTwice ∷ [])) different
 
 pub returns-in-Err : goal.returns-in-Err

@@ -4,8 +4,8 @@ use Rattle.std.proofs.lemmas.List.{length-map}
 use Rattle.liszt_base.specs.declared.mesh.RawCell.{RawCell}
 use Rattle.tet_reader.specs.Points.{Cells}
 use Rattle.tet_reader.specs.Faults.{ele_fault}
-use Rattle.tet_reader.specs.Misfits.{first_misfit}
-use Rattle.tet_reader.proofs.WholeFault.{misfit_fault, misfit_inside}
+use Rattle.tet_reader.specs.Internal.FirstMisfit.{first_misfit}
+use Rattle.tet_reader.proofs.WholeFaultLemmas.{misfit_fault, misfit_inside}
 use Rattle.tet_reader.proofs.EleReading.{OfCells, corners_fit, cells_count, misfit_is, misfit_line, mesh_fits, made_mesh}
 use Rattle.tet_reader.proofs.cells.read_cells.Goals as goal
 
@@ -41,8 +41,8 @@ returns-in-Some c =
     omega (arith, inside, length-map c.as_slice-2.result.now (λ (cell : RawCell). cell.corners), count, ap length c.as_slice-2.ensures) in
     misfit_is c.args.points.list c.args.points.base c.args.rows.now c.in_ok-cells.cells none h
     ∙ (ap (option_map (misfit_fault (drop 1 c.args.rows.now.rows))) found'
-    ∙ ap Some (misfit_line c.args.rows.now.rows c.in-Some.misfit c.line-line.result c.fault_within.result (omega (arith, within)) c.line-line.ensures within
-    c.fault_within.ensures))
+    ∙ ap Some (misfit_line c.args.rows.now.rows c.in-Some.misfit c.line-line.result c.fault_with_count.result (omega (arith, within)) c.line-line.ensures within
+    c.fault_with_count.ensures))
 
 pub returns-in-None : goal.returns-in-None
 returns-in-None c =

@@ -1,5 +1,5 @@
 use Rattle.std.proofs.Common.{◌≡◌, ◌<◌, length, true, rules, sym, ◌∙◌}
-use Rattle.text_scan.specs.Tables.{row_at}
+use Rattle.text_scan.specs.Rows.{row_at}
 use Rattle.tet_reader.proofs.HeaderTests.{ele_read}
 use Rattle.tet_reader.proofs.headers.ele_header.Goals as goal
 
@@ -10,4 +10,4 @@ returns-in-None c =
     let spelled : c.read_header.result ≡ true = search rules in
     let h = ele_read words c.read_header.new.numbers (sym c.read_header.ensures.spelled ∙ spelled) (c.read_header.ensures.numbers spelled)
     (sym c.in-None.ensures) in
-    (some, rw (c.size_at.ensures, c.size_at-in-None.ensures) h)
+    (some, rw (c.count_at.ensures, c.count_at-in-None.ensures) h)

@@ -1,5 +1,5 @@
 use Rattle.std.proofs.Common.{◌+◌}
-use Rattle.text_scan.specs.Tables.{row_at}
+use Rattle.text_scan.specs.Rows.{row_at}
 use Rattle.tet_reader.proofs.PointRows.{point_read, point_count}
 use Rattle.tet_reader.proofs.points.point_row.Goals as goal
 

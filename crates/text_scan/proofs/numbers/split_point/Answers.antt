@@ -1,20 +1,20 @@
 use Rattle.std.proofs.Common.{◌+◌, sym, ◌∙◌}
 use Rattle.std.proofs.lemmas.List.{take_rest}
 use Rattle.text_scan.specs.Numbers as spec
-use Rattle.text_scan.proofs.Splits.{found, missed, all_before}
+use Rattle.text_scan.proofs.SplitLemmas.{position_some, position_none, all_before}
 use Rattle.text_scan.proofs.numbers.split_point.Goals as goal
 
 pub returns-in-Some-clause-before : goal.returns-in-Some-clause-before
-returns-in-Some-clause-before c = (found spec.is_point c.args.text.now c.in-Some.place (sym c.in-Some.ensures)).1
+returns-in-Some-clause-before c = (position_some spec.is_decimal_point c.args.text.now c.in-Some.place (sym c.in-Some.ensures)).1
 
-pub returns-in-Some-clause-behind : goal.returns-in-Some-clause-behind
-returns-in-Some-clause-behind c =
-    take_rest c.args.text.now (c.in-Some.place + 1) ∙ (found spec.is_point c.args.text.now c.in-Some.place (sym c.in-Some.ensures)).2
+pub returns-in-Some-clause-after : goal.returns-in-Some-clause-after
+returns-in-Some-clause-after c =
+    take_rest c.args.text.now (c.in-Some.place + 1) ∙ (position_some spec.is_decimal_point c.args.text.now c.in-Some.place (sym c.in-Some.ensures)).2
 
 pub returns-in-None-clause-before : goal.returns-in-None-clause-before
 returns-in-None-clause-before c =
-    (all_before spec.is_point c.args.text.now (missed spec.is_point c.args.text.now (sym c.in-None.ensures))).0
+    (all_before spec.is_decimal_point c.args.text.now (position_none spec.is_decimal_point c.args.text.now (sym c.in-None.ensures))).0
 
-pub returns-in-None-clause-behind : goal.returns-in-None-clause-behind
-returns-in-None-clause-behind c =
-    (all_before spec.is_point c.args.text.now (missed spec.is_point c.args.text.now (sym c.in-None.ensures))).1
+pub returns-in-None-clause-after : goal.returns-in-None-clause-after
+returns-in-None-clause-after c =
+    (all_before spec.is_decimal_point c.args.text.now (position_none spec.is_decimal_point c.args.text.now (sym c.in-None.ensures))).1

@@ -1,7 +1,7 @@
 use Rattle.std.proofs.Common.{map, ap, sym, ◌∙◌}
 use Rattle.std.proofs.lemmas.List.{get_or-map}
 use Rattle.liszt_base.specs.Cuts.{start_at}
-use Rattle.text_scan.proofs.TableRows.{start_is}
+use Rattle.text_scan.proofs.RowTableLemmas.{start_is}
 use Rattle.text_scan.proofs.row_table.span.Goals.{then-place-eq0, else-place-eq0}
 use Rattle.text_scan.proofs.row_table.span.Goals as goal
 

@@ -1,5 +1,5 @@
 use Rattle.std.proofs.Common.{ap, arith, rules, ◌<◌, length}
-use Rattle.text_scan.proofs.LineSteps.{left_shorter, line_added}
+use Rattle.text_scan.proofs.LineLemmas.{left_shorter, line_added}
 use Rattle.text_scan.proofs.rows.rows_of.Goals as goal
 
 pub loop-rest-preserved : goal.loop-rest-preserved

@@ -1,6 +1,6 @@
 use Rattle.std.proofs.Common.{◌≡◌, ◌+◌, ◌≤◌, length, []}
 use Rattle.text_scan.specs.Rows.{text_rows}
-use Rattle.text_scan.proofs.LineSteps.{text_of}
+use Rattle.text_scan.proofs.LineLemmas.{text_of}
 use Rattle.text_scan.proofs.rows.rows_of.Given as goal
 
 abbrev pub invariant-loop-rest : goal.invariant-loop-rest

@@ -1,4 +1,4 @@
-use Rattle.topo_operators.proofs.Along.{face_along, flipped_face}
+use Rattle.topo_operators.proofs.EdgeAlongLemmas.{face_along, flipped_face}
 use Rattle.topo_operators.proofs.laws.edges_go_along_the_cycle.Goals as goal
 
 pub returns-clause-three : goal.returns-clause-three

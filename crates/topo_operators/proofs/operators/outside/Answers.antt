@@ -1,6 +1,6 @@
 use Rattle.std.proofs.Common.{ap, ◌∙◌}
 use Rattle.topo_operators.specs.Operators.{inside}
-use Rattle.topo_operators.proofs.Swapped.{sides_swap}
+use Rattle.topo_operators.proofs.SideSwapLemmas.{sides_swap}
 use Rattle.topo_operators.proofs.operators.outside.Goals as goal
 
 pub returns : goal.returns

@@ -1,5 +1,5 @@
 use Rattle.std.specs.Option.{option_to_list}
-use Rattle.topo_operators.proofs.Turns.{first_side}
+use Rattle.topo_operators.proofs.FaceCycleLemmas.{first_side}
 use Rattle.topo_operators.proofs.sets.cycle_of.Goals as goal
 
 pub cell_corners-requires : goal.cell_corners-requires

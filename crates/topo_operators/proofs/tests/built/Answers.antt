@@ -3,7 +3,7 @@ use Rattle.liszt_base.specs.Corners.{IsMesh}
 use Rattle.liszt_base.specs.declared.elements.Kind.{Kind}
 use Rattle.mesh_topology.specs.Elements.{corner_lists, count}
 use Rattle.mesh_topology.specs.Meshes.{one_cell}
-use Rattle.mesh_topology.proofs.Few.{fits}
+use Rattle.mesh_topology.proofs.CountLemmas.{fits}
 use Rattle.topo_operators.proofs.tests.built.Goals as goal
 
 one_is : IsMesh (length one_cell.points) (corner_lists one_cell)

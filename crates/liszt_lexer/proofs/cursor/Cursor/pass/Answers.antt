@@ -1,6 +1,6 @@
 use Rattle.std.proofs.Common.{◌+◌, ◌-◌, take, drop, get_or, ap, ◌∙◌}
-use Rattle.liszt_lexer.specs.Rest.{place_past}
-use Rattle.liszt_lexer.proofs.Places.{past_in_part}
+use Rattle.liszt_lexer.specs.Internal.Remaining.{place_after_byte}
+use Rattle.liszt_lexer.proofs.PlaceLemmas.{past_in_part}
 use Rattle.liszt_lexer.proofs.cursor.Cursor.pass.Goals as goal
 
 pub loop-byte-preserved : goal.loop-byte-preserved
@@ -10,6 +10,6 @@ loop-byte-preserved c =
     let i = c.loop-byte.byte-index in (
       c.loop-byte.invariant.0,
       c.past-self.ensures
-          ∙ ap (λ p. place_past p (get_or (take (passed + c.args.size - passed) (drop passed text)) i 0)) c.loop-byte.invariant.1
+          ∙ ap (λ p. place_after_byte p (get_or (take (passed + c.args.size - passed) (drop passed text)) i 0)) c.loop-byte.invariant.1
           ∙ past_in_part text passed (passed + c.args.size - passed) i c.loop-byte-test.true,
     )

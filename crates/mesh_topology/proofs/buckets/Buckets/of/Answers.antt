@@ -1,7 +1,7 @@
 use Rattle.std.proofs.Common.{◌≡◌, ◌≤◌, length, get_or, Some, ap, sym, ◌∙◌, arith, rules}
 use Rattle.std.specs.List.{between}
 use Rattle.std.proofs.lemmas.Grind.{get_or_default_zero}
-use Rattle.mesh_topology.proofs.Packed.{list_read}
+use Rattle.mesh_topology.proofs.BucketLemmas.{list_read}
 use Rattle.mesh_topology.proofs.buckets.Buckets.of.Goals as goal
 
 pub index-start-requires : goal.index-start-requires
@@ -22,7 +22,7 @@ slice_bounds-result-count c =
     let r = list_read c.args.self.now b.starts.items b.ends.items b.items.items c.args.place c.self.view_is c.self.invariant c.requires in
     let f = c.index-start.ensures ∙ get_or_default_zero b.starts.items c.args.place c.index-start.result.now r.begins in
     let e = c.index-end.ensures ∙ get_or_default_zero b.ends.items c.args.place c.index-end.result.now r.below in
-    omega (arith, f, e, r.rises)
+    omega (arith, f, e, r.ascending)
 
 pub slice_bounds-result-start : goal.slice_bounds-result-start
 slice_bounds-result-start c =
@@ -30,7 +30,7 @@ slice_bounds-result-start c =
     let r = list_read c.args.self.now b.starts.items b.ends.items b.items.items c.args.place c.self.view_is c.self.invariant c.requires in
     let f = c.index-start.ensures ∙ get_or_default_zero b.starts.items c.args.place c.index-start.result.now r.begins in
     let e = c.index-end.ensures ∙ get_or_default_zero b.ends.items c.args.place c.index-end.result.now r.below in
-    omega (arith, f, e, r.rises)
+    omega (arith, f, e, r.ascending)
 
 pub slice_bounds-result-end : goal.slice_bounds-result-end
 slice_bounds-result-end c =
@@ -46,7 +46,7 @@ offset_bounds-deref-start c =
     let b = c.self.inside in
     let r = list_read c.args.self.now b.starts.items b.ends.items b.items.items c.args.place c.self.view_is c.self.invariant c.requires in
     let f = c.index-start.ensures ∙ get_or_default_zero b.starts.items c.args.place c.index-start.result.now r.begins in
-    let k : c.index-start.result.now ≤ length b.items.items = omega (arith, r.rises, r.inside) in
+    let k : c.index-start.result.now ≤ length b.items.items = omega (arith, r.ascending, r.inside) in
     let v = c.deref.ensures in
     search rules
 

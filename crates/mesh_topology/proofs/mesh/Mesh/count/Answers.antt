@@ -1,7 +1,7 @@
 use Rattle.std.proofs.Common.{◌≡◌, ◌<◌, ◌^◌, length, ap, sym, ◌∙◌, arith, rules}
 use Rattle.liszt_base.specs.declared.elements.Kind.TheVariants.{Vertex, Edge, Face, Cell}
 use Rattle.mesh_topology.specs.Elements.{count}
-use Rattle.mesh_topology.proofs.Near.{vertex_count, cell_count}
+use Rattle.mesh_topology.proofs.NearLemmas.{vertex_count, cell_count}
 use Rattle.mesh_topology.proofs.mesh.Mesh.count.Goals as goal
 
 pub overflow_cast-result : goal.overflow_cast-result
@@ -13,13 +13,13 @@ overflow_cast-result c =
 
 pub overflow_cast-result-in-Edge : goal.overflow_cast-result-in-Edge
 overflow_cast-result-in-Edge c =
-    let e : length c.self.inside.lower.sets.edges.items ≡ count c.self.inside.raw Edge = ap (λ xs. length xs) c.self.invariant.lower_is.sets.edges in
+    let e : length c.self.inside.lower.sets.edges.items ≡ count c.self.inside.raw Edge = ap (λ xs. length xs) c.self.invariant.lower_tables.sets.edges in
     let l : c.len.result < 2 ^ 32 = omega (arith, c.self.inside.lower.sets.edges.ok.0, c.self.invariant.small.fits Edge) in
     search rules
 
 pub overflow_cast-result-in-Face : goal.overflow_cast-result-in-Face
 overflow_cast-result-in-Face c =
-    let e : length c.self.inside.lower.sets.faces.items ≡ count c.self.inside.raw Face = ap (λ xs. length xs) c.self.invariant.lower_is.sets.faces in
+    let e : length c.self.inside.lower.sets.faces.items ≡ count c.self.inside.raw Face = ap (λ xs. length xs) c.self.invariant.lower_tables.sets.faces in
     let l : c.len-in-Face.result < 2 ^ 32 = omega (arith, c.self.inside.lower.sets.faces.ok.0, c.self.invariant.small.fits Face) in
     search rules
 

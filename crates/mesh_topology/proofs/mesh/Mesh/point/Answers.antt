@@ -1,7 +1,7 @@
 use Rattle.std.proofs.Common.{◌≡◌, ◌<◌, length, get_or, slice_get, Some, ap, subst, ◌∙◌, arith}
 use Rattle.std.proofs.lemmas.Option.{slice_get-get_or}
-use Rattle.mesh_topology.proofs.Near.{vertex_count}
-use Rattle.mesh_topology.proofs.Listed.{no_point}
+use Rattle.mesh_topology.proofs.NearLemmas.{vertex_count}
+use Rattle.mesh_topology.proofs.ListLemmas.{no_point}
 use Rattle.mesh_topology.proofs.mesh.Mesh.point.Goals as goal
 
 pub bounds-points-v : goal.bounds-points-v

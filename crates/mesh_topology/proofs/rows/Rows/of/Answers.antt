@@ -1,7 +1,7 @@
 use Rattle.std.proofs.Common.{[], take, get_or, Some, ap, sym, ◌∙◌, arith}
 use Rattle.std.proofs.lemmas.Grind.{get_or_default_zero}
 use Rattle.std.proofs.lemmas.List.{get_or_read}
-use Rattle.mesh_topology.proofs.Fronts.{front}
+use Rattle.mesh_topology.proofs.PrefixLemmas.{front}
 use Rattle.mesh_topology.proofs.rows.Rows.of.Goals as goal
 
 pub index-count-requires : goal.index-count-requires

@@ -1,4 +1,4 @@
-use Rattle.text_scan.proofs.TableRows.{row_closed}
+use Rattle.text_scan.proofs.RowTableLemmas.{row_closed}
 use Rattle.text_scan.proofs.row_table.RowTable.close.Goals as goal
 
 pub invariant_of-self-then-end-self : goal.invariant_of-self-then-end-self

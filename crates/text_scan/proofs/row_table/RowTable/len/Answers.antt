@@ -1,5 +1,5 @@
 use Rattle.std.proofs.Common.{ap, ◌∙◌}
-use Rattle.text_scan.proofs.TableRows.{rows_count}
+use Rattle.text_scan.proofs.RowTableLemmas.{rows_count}
 use Rattle.text_scan.proofs.row_table.RowTable.len.Goals as goal
 
 pub returns : goal.returns

@@ -1,5 +1,5 @@
 use Rattle.std.proofs.Common.{ap, sym, arith}
-use Rattle.text_scan.proofs.TableRows.{rows_count, line_found}
+use Rattle.text_scan.proofs.RowTableLemmas.{rows_count, line_found}
 use Rattle.text_scan.proofs.row_table.RowTable.line.Goals as goal
 
 pub index-requires : goal.index-requires

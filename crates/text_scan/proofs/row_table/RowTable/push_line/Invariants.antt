@@ -1,5 +1,5 @@
 use Rattle.std.proofs.Common.{◌≡◌, ◌++◌, length}
-use Rattle.text_scan.specs.Tables.{words_in}
+use Rattle.text_scan.specs.Internal.OpenRows.{words_in}
 use Rattle.text_scan.proofs.row_table.RowTable.push_line.Given as goal
 
 abbrev pub invariant-loop-word : goal.invariant-loop-word

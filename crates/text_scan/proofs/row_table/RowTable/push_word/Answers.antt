@@ -1,5 +1,5 @@
 use Rattle.std.specs.Prelude.{Result, Ok, Err, OnOk}
-use Rattle.text_scan.proofs.TableRows.{word_pushed}
+use Rattle.text_scan.proofs.RowTableLemmas.{word_pushed}
 use Rattle.text_scan.proofs.row_table.RowTable.push_word.Goals as goal
 
 on_ok : {E : Type 0} {P Q : Type 0} (r : Result (Unit {0}) E) → (P → Q) → OnOk r P → OnOk r Q

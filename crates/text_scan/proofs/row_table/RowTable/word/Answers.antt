@@ -1,6 +1,6 @@
 use Rattle.std.proofs.Common.{ap, arith}
-use Rattle.text_scan.proofs.TableRows.{rows_count, row_found, words_count, word_found}
-use Rattle.text_scan.specs.Tables.{row_at}
+use Rattle.text_scan.proofs.RowTableLemmas.{rows_count, row_found, words_count, word_found}
+use Rattle.text_scan.specs.Rows.{row_at}
 use Rattle.text_scan.proofs.row_table.RowTable.word.Goals as goal
 
 pub span-start-requires : goal.span-start-requires

@@ -1,0 +1,337 @@
+-- The steps that read the inputs, joined.
+use Rattle.std.proofs.Common.{◌≡◌, ℕ, ◌≤◌, inl, inr, List, length, Option, Some, None, MatchOption, MatchResult, Result, Ok, Err, refl, sym, ap, subst, ◌∙◌, arith, ℤ, pos, ◌+ℤ◌, ◌≤ℤ◌, ◌⊎◌}
+use Rattle.std.specs.Prelude.{IfOk, FitsSigned}
+use Rattle.std.proofs.lemmas.Int.{ints, to_z-of_z}
+use mir.Syntax.{w64}
+use mir.Val.{to_z, of_z}
+use Rattle.liszt_base.specs.declared.answers.Input.{Input}
+use Rattle.liszt_base.specs.declared.answers.Input.TheVariants.{Program, Node, Ele}
+use Rattle.liszt_base.specs.declared.mesh.PointTable.{PointTable}
+use Rattle.liszt_base.specs.MeshLists.{MeshLists}
+use Rattle.std.specs.Io.KnownBytes.{append_known}
+use Rattle.liszt_io.specs.declared.outside.WriteFault.{WriteFault as Unwritten}
+use Rattle.liszt_io.specs.Causes.{HasCause}
+use Rattle.liszt_io.specs.Sinks.{TakesPrefix, Writes}
+use Rattle.liszt_io.specs.Shelves.{Files, Tally, FailsAt}
+use Rattle.liszt_tree.specs.Tree.{Main}
+use Rattle.liszt.specs.Simple.{Simple, IsSmall}
+use Rattle.liszt_report.specs.declared.ended.Ended.{Ended}
+use Rattle.liszt_report.specs.declared.ended.Ended.TheVariants.{Done, Usage, Later, Program as OfProgram, Mesh, Limit, ReadFault, WriteFault, NoMemory}
+use Rattle.liszt.specs.declared.job.Job.{Job}
+use Rattle.command_words.specs.Commands.{command_of, SeqCommand}
+use Rattle.liszt_base.specs.declared.answers.Refused.{Refused}
+use Rattle.liszt_base.specs.declared.answers.Refused.TheVariants.{Fault, NoMemory as OutOfMemory}
+use Rattle.liszt_report.specs.Endings.{ending_text, ending_of, field_text, too_long}
+use Rattle.liszt.specs.Simple.{done_text}
+use Rattle.liszt.specs.Expected.{Outcome, refusal, Within, ProgramResult, NodeResult, EleResult, TakesIn, Finishes, TakesCells, TakesPoints, Seq, ResultsIn}
+use Rattle.liszt.specs.Answers.{outside, IsLost, Answers, Wrote, HasCauses, HasShelfCause}
+use Rattle.liszt.specs.Internal.Steps.{HasStepCause, StepGives, MakesJob, Prepares, job_text}
+
+-- From the bytes of an input to their result
+
+err_is : {A : Type 0} (x y : Ended) → ◌≡◌ {A = Result A Ended} (Err x) (Err y) → x ≡ y
+err_is x y e = cc
+
+-- a refusal of the bytes alone is a refusal of every result
+pub step_refused : {A B : Type 0} (files : Files) (input : Input) (name : List ℕ) (HasResult : List ℕ → Result A Ended → Type 0) (Itself : List ℕ → Result B Ended → Type 0)
+    (before now : Tally) (ended : Ended) → ((bytes : List ℕ) (e : Ended) → Itself bytes (Err e) → ⊥)
+    → StepGives files input name Itself before now (Err ended) → StepGives files input name HasResult before now (Err ended)
+step_refused files input name HasResult Itself before now ended none (inl memory) = inl memory
+step_refused files input name HasResult Itself before now ended none (inr (inl lost)) = inr (inl lost)
+step_refused files input name HasResult Itself before now ended none (inr (inr h)) = inr (inr (h.0, h.1, go h.2))
+  where
+    go : Within input Itself h.0 (Err ended) → Within input HasResult h.0 (Err ended)
+    go (inl long) = inl (long.0, ap (λ (e : Ended). Err e) (err_is ended (too_long input) long.1))
+    go (inr w) = absurd (none h.0 ended w.1)
+
+-- the value of bytes within the limit, and their fault
+pub step_value : {A B : Type 0} (files : Files) (input : Input) (name : List ℕ) (HasResult : List ℕ → Result A Ended → Type 0) (Itself : List ℕ → Result B Ended → Type 0)
+    (before now : Tally) (seen : B) (value : A) → StepGives files input name Itself before now (Ok seen)
+    → ((bytes : List ℕ) → Itself bytes (Ok seen) → HasResult bytes (Ok value)) → StepGives files input name HasResult before now (Ok value)
+step_value files input name HasResult Itself before now seen value h more = (h.0, h.1, go h.2, h.3)
+  where
+    go : Within input Itself h.0 (Ok seen) → Within input HasResult h.0 (Ok value)
+    go (inl long) = let no : Ok seen ≡ Err (too_long input) = long.1 in cc
+    go (inr w) = inr (w.0, more h.0 w.1)
+
+pub step_fault : {A B : Type 0} (files : Files) (input : Input) (name : List ℕ) (HasResult : List ℕ → Result A Ended → Type 0) (Itself : List ℕ → Result B Ended → Type 0)
+    (before now : Tally) (seen : B) (ended : Ended) → StepGives files input name Itself before now (Ok seen)
+    → ((bytes : List ℕ) → Itself bytes (Ok seen) → HasResult bytes (Err ended)) → StepGives files input name HasResult before now (Err ended)
+step_fault files input name HasResult Itself before now seen ended h more = inr (inr (h.0, h.1, go h.2))
+  where
+    go : Within input Itself h.0 (Ok seen) → Within input HasResult h.0 (Err ended)
+    go (inl long) = let no : Ok seen ≡ Err (too_long input) = long.1 in cc
+    go (inr w) = inr (w.0, more h.0 w.1)
+
+-- a call on the bytes was refused
+pub step_failed : {A B F : Type 0} (files : Files) (input : Input) (name : List ℕ) (HasResult : List ℕ → Result A Ended → Type 0) (Itself : List ℕ → Result B Ended → Type 0)
+    (before now : Tally) (seen : B) (of_fault : F → Ended) (refused : Refused F) (result : Result A Ended) → result ≡ Err (ending_of of_fault refused)
+    → StepGives files input name Itself before now (Ok seen)
+    → ((bytes : List ℕ) (fault : F) → refused ≡ Fault fault → Itself bytes (Ok seen) → HasResult bytes (Err (of_fault fault)))
+    → StepGives files input name HasResult before now result
+step_failed {A} files input name HasResult Itself before now seen of_fault (Fault fault) result is h more =
+    subst (λ (r : Result A Ended). StepGives files input name HasResult before now r) (sym is)
+    (step_fault files input name HasResult Itself before now seen (of_fault fault) h (λ bytes same. more bytes fault refl same))
+step_failed {A} files input name HasResult Itself before now seen of_fault OutOfMemory result is h more =
+    subst (λ (r : Result A Ended). StepGives files input name HasResult before now r) (sym is) (inl refl)
+
+-- From the steps to the command
+
+-- an input is refused
+input_refused : {A : Type 0} (files : Files) (input : Input) (name : List ℕ) (HasResult : List ℕ → Result A Ended → Type 0) (Continues : A → Outcome → Type 0) (before now : Tally) (ended : Ended)
+    → StepGives files input name HasResult before now (Err ended) → (ended ≡ NoMemory) ⊎ TakesIn (IsLost files before now) files input name HasResult Continues (refusal ended)
+input_refused files input name HasResult Continues before now ended (inl memory) = inl memory
+input_refused files input name HasResult Continues before now ended (inr (inl lost)) = inr (inl (lost.1, ap refusal lost.0))
+input_refused files input name HasResult Continues before now ended (inr (inr h)) = inr (inr (h.0, Err ended, h.1, h.2, refl))
+
+-- the input has a value, with which the command continues to the outcome
+input_continues : {A : Type 0} (Lost : List ℕ → Type 0) (files : Files) (input : Input) (name : List ℕ) (HasResult : List ℕ → Result A Ended → Type 0) (Continues : A → Outcome → Type 0) (before now : Tally) (value : A) (outcome : Outcome)
+    → StepGives files input name HasResult before now (Ok value) → Continues value outcome → TakesIn Lost files input name HasResult Continues outcome
+input_continues Lost files input name HasResult Continues before now value outcome h rest = inr (h.0, Ok value, h.1, h.2, rest)
+
+refusal_continues : (Comes Comes' : Outcome → Type 0) (ended : Ended) → ((outcome : Outcome) → Comes outcome → Comes' outcome)
+    → (ended ≡ NoMemory) ⊎ Comes (refusal ended) → (ended ≡ NoMemory) ⊎ Comes' (refusal ended)
+refusal_continues Comes Comes' ended more (inl memory) = inl memory
+refusal_continues Comes Comes' ended more (inr h) = inr (more (refusal ended) h)
+
+named : (Lost : List ℕ → Type 0) (words : List (List ℕ)) (files : Files) (c : SeqCommand) (outcome : Outcome) → command_of words ≡ Some c → Seq Lost files c outcome → ResultsIn Lost words files outcome
+named Lost words files c outcome is h =
+    subst (λ (o : Option SeqCommand). MatchOption o (outcome ≡ refusal Usage) (λ d. Seq Lost files d outcome)) (sym is) h
+
+pub no_command : (Lost : List ℕ → Type 0) (words : List (List ℕ)) (files : Files) → command_of words ≡ None → ResultsIn Lost words files (refusal Usage)
+no_command Lost words files is =
+    subst (λ (o : Option SeqCommand). MatchOption o (refusal Usage ≡ refusal Usage) (λ d. Seq Lost files d (refusal Usage))) (sym is) refl
+
+abbrev done_with : List ℕ → Outcome
+done_with text = record { ended = Done; text = text }
+
+pub program_refused : (words : List (List ℕ)) (files : Files) (c : SeqCommand) (before now : Tally) (ended : Ended) → command_of words ≡ Some c
+    → StepGives files Program c.program ProgramResult before now (Err ended) → Prepares words files before now (Err ended)
+program_refused words files c before now ended is first =
+    let Lost : List ℕ → Type 0 = IsLost files before now in
+    refusal_continues (Seq Lost files c) (ResultsIn Lost words files) ended (λ outcome. named Lost words files c outcome is)
+    (input_refused files Program c.program ProgramResult (TakesPoints Lost files c) before now ended first)
+
+pub node_refused : (words : List (List ℕ)) (files : Files) (c : SeqCommand) (program : Main) (before t now : Tally) (ended : Ended) → command_of words ≡ Some c
+    → StepGives files Program c.program ProgramResult before t (Ok program) → StepGives files Node c.node NodeResult t now (Err ended) → Prepares words files before now (Err ended)
+node_refused words files c program before t now ended is first second =
+    let Lost : List ℕ → Type 0 = IsLost files before now in
+    let second' = subst (λ (s : Tally). StepGives files Node c.node NodeResult s now (Err ended)) first.3 second in
+    refusal_continues (TakesPoints Lost files c program) (ResultsIn Lost words files) ended
+    (λ outcome h. named Lost words files c outcome is (input_continues Lost files Program c.program ProgramResult (TakesPoints Lost files c) before t program outcome first h))
+    (input_refused files Node c.node NodeResult (TakesCells Lost files c program) before now ended second')
+
+pub ele_refused : (words : List (List ℕ)) (files : Files) (c : SeqCommand) (program : Main) (table : PointTable) (before t u now : Tally) (ended : Ended) → command_of words ≡ Some c
+    → StepGives files Program c.program ProgramResult before t (Ok program) → StepGives files Node c.node NodeResult t u (Ok table)
+    → StepGives files Ele c.ele (EleResult table) u now (Err ended) → Prepares words files before now (Err ended)
+ele_refused words files c program table before t u now ended is first second third =
+    let Lost : List ℕ → Type 0 = IsLost files before now in
+    let third' = subst (λ (s : Tally). StepGives files Ele c.ele (EleResult table) s now (Err ended)) (second.3 ∙ first.3) third in
+    refusal_continues (TakesCells Lost files c program table) (ResultsIn Lost words files) ended
+    (λ outcome h. named Lost words files c outcome is
+    (input_continues Lost files Program c.program ProgramResult (TakesPoints Lost files c) before t program outcome first
+    (input_continues Lost files Node c.node NodeResult (TakesCells Lost files c program) t u table outcome second h)))
+    (input_refused files Ele c.ele (EleResult table) (Finishes program) before now ended third')
+
+-- the lines of a job are the text of its program on its mesh
+pub job_text_is : (simple : Simple) (mesh : MeshLists) (name : List ℕ) (value : ℤ) → name ≡ simple.name → value ≡ simple.first +ℤ simple.added
+    → field_text name (λ _. value) (length mesh.cells) ≡ done_text simple mesh
+job_text_is simple mesh name value e f =
+    ap (λ (n : List ℕ). field_text n (λ _. value) (length mesh.cells)) e ∙ ap (λ (v : ℤ). field_text simple.name (λ _. v) (length mesh.cells)) f
+
+-- the outcome of a job, or of the refusal to make one
+job_finishes : (tree : Main) (mesh : MeshLists) (job : Job) → MakesJob tree mesh (Ok job)
+    → Finishes tree mesh (record { ended = Done; text = job_text job })
+job_finishes tree mesh job made = inl (made.0, made.1, ap done_with made.2)
+
+refusal_finishes : (Comes : Outcome → Type 0) (tree : Main) (mesh : MeshLists) (ended : Ended) → ((outcome : Outcome) → Finishes tree mesh outcome → Comes outcome)
+    → MakesJob tree mesh (Err ended) → (ended ≡ NoMemory) ⊎ Comes (refusal ended)
+refusal_finishes Comes tree mesh ended comes (inl memory) = inl memory
+refusal_finishes Comes tree mesh ended comes (inr later) = inr (comes (refusal ended) (inr (later.1, ap refusal later.0)))
+
+pub all_inputs : (words : List (List ℕ)) (files : Files) (c : SeqCommand) (program : Main) (table : PointTable) (mesh : MeshLists) (made : Result Job Ended) (before t u now : Tally) → command_of words ≡ Some c
+    → StepGives files Program c.program ProgramResult before t (Ok program) → StepGives files Node c.node NodeResult t u (Ok table)
+    → StepGives files Ele c.ele (EleResult table) u now (Ok mesh) → MakesJob program mesh made → Prepares words files before now made
+all_inputs words files c program table mesh made before t u now is first second third makes = go made makes
+  where
+    comes : (outcome : Outcome) → Finishes program mesh outcome → ResultsIn (IsLost files before now) words files outcome
+    comes outcome finishes =
+        let Lost : List ℕ → Type 0 = IsLost files before now in
+        named Lost words files c outcome is
+        (input_continues Lost files Program c.program ProgramResult (TakesPoints Lost files c) before t program outcome first
+        (input_continues Lost files Node c.node NodeResult (TakesCells Lost files c program) t u table outcome second
+        (input_continues Lost files Ele c.ele (EleResult table) (Finishes program) u now mesh outcome third finishes)))
+
+    go : (made : Result Job Ended) → MakesJob program mesh made → Prepares words files before now made
+    go (Ok job) makes = comes (record { ended = Done; text = job_text job }) (job_finishes program mesh job makes)
+    go (Err ended) makes = refusal_finishes (ResultsIn (IsLost files before now) words files) program mesh ended comes makes
+
+-- the other clauses of a job
+pub job_cause : (shelf shelf' : ℕ) (tree : Main) (mesh : MeshLists) (made : Result Job Ended) → MakesJob tree mesh made → shelf' ≡ shelf
+    → HasStepCause shelf shelf' made
+job_cause shelf shelf' tree mesh (Ok job) makes same = same
+job_cause shelf shelf' tree mesh (Err ended) (inl memory) same = subst (λ (e : Ended). HasStepCause {A = Job} shelf shelf' (Err e)) (sym memory) same
+job_cause shelf shelf' tree mesh (Err ended) (inr later) same = subst (λ (e : Ended). HasStepCause {A = Job} shelf shelf' (Err e)) (sym later.0) same
+
+pub job_no_usage : (tree : Main) (mesh : MeshLists) (made : Result Job Ended) → MakesJob tree mesh made → made ≡ Err Usage → ⊥
+job_no_usage tree mesh (Ok job) makes is = absurd cc
+job_no_usage tree mesh (Err ended) (inl memory) is = absurd cc
+job_no_usage tree mesh (Err ended) (inr later) is = let l = later.0 in absurd cc
+
+pub made_job : (tree : Main) (mesh : MeshLists) (made : Result Job Ended) → MakesJob tree mesh made
+    → IfOk made (λ job. (simple : Simple) × (m : MeshLists) × (job_text job ≡ done_text simple m))
+made_job tree mesh (Ok job) makes = (makes.0, mesh, makes.2)
+made_job tree mesh (Err ended) makes = tt
+
+-- a failed file is a lost one
+pub lost_at : (files : Files) (name : List ℕ) (before now : Tally) → FailsAt files name before now → IsLost files before now name
+lost_at files name before now (inl stray) = inl stray.0
+lost_at files name before now (inr other) = inr (other.1.others, other.1.last)
+
+-- a refusal that is not Usage
+pub no_usage : {A B : Type 0} (ended : Ended) (result : Result A Ended) → result ≡ Err ended → (◌≡◌ {A = Result B Ended} (Err ended) (Err Usage) → ⊥) → result ≡ Err Usage → ⊥
+no_usage ended result is other usage = let same : ended ≡ Usage = cc in other (ap Err same)
+
+-- two numbers of at most 10^9 and their sum, as words of 64 bits
+word_of : (z : ℤ) → pos 0 ≤ℤ z → z ≤ℤ pos 2000000000 → to_z w64 (of_z w64 z) ≡ z
+word_of z low high = to_z-of_z w64 z (omega (arith, ints))
+
+pub value_is : (first added : ℤ) → IsSmall first → IsSmall added
+    → to_z w64 (of_z w64 (to_z w64 (of_z w64 first) +ℤ to_z w64 (of_z w64 added))) ≡ first +ℤ added
+value_is first added b c =
+    let one = word_of first b.0 (omega (arith, ints)) in
+    let two = word_of added c.0 (omega (arith, ints)) in
+    rw (one, two) (word_of (first +ℤ added) (omega (arith, ints)) (omega (arith, ints)))
+
+pub value_fits : (first added : ℤ) → IsSmall first → IsSmall added
+    → FitsSigned w64 (to_z w64 (of_z w64 first) +ℤ to_z w64 (of_z w64 added))
+value_fits first added b c =
+    let one = word_of first b.0 (omega (arith, ints)) in
+    let two = word_of added c.0 (omega (arith, ints)) in
+    rw (one, two) (omega (arith, ints))
+
+-- From what is known before anything is written to the answer
+
+pub job_answers : (words : List (List ℕ)) (files : Files) (before now : Tally) (shelf shelf' : ℕ) (old new : Option (List ℕ)) (job : Job) (written : Result Unit Unwritten) (ended : Ended)
+    → Prepares words files before now (Ok job) → shelf' ≡ shelf → Writes (job_text job) old new written → MatchResult written (λ _. ended ≡ Done) (λ _. ended ≡ WriteFault)
+    → Answers words files (outside before shelf old) (outside now shelf' new) ended
+job_answers words files before now shelf shelf' old new job (Ok _) ended comes same output is =
+    subst (Answers words files (outside before shelf old) (outside now shelf' new)) (sym is) (job_text job, comes, output)
+job_answers words files before now shelf shelf' old new job (Err _) ended comes same prefix is =
+    subst (Answers words files (outside before shelf old) (outside now shelf' new)) (sym is) (record { ended = Done; text = job_text job }, inl comes, prefix, same)
+
+-- a refusal whose line was written is the answer
+refused : (words : List (List ℕ)) (files : Files) (before now : Tally) (shelf shelf' : ℕ) (old new : Option (List ℕ)) (ended : Ended)
+    → (ended ≡ NoMemory) ⊎ ResultsIn (IsLost files before now) words files (refusal ended) → HasStepCause {A = Job} shelf shelf' (Err ended)
+    → new ≡ append_known old (ending_text ended) → Answers words files (outside before shelf old) (outside now shelf' new) ended
+refused words files before now shelf shelf' old new NoMemory comes can output = output
+refused words files before now shelf shelf' old new Done comes can output = absurd can
+refused words files before now shelf shelf' old new WriteFault comes can output = absurd can
+refused words files before now shelf shelf' old new Usage (inl memory) can output = cc
+refused words files before now shelf shelf' old new Usage (inr comes) can output = (ending_text Usage, comes, output)
+refused words files before now shelf shelf' old new Later (inl memory) can output = cc
+refused words files before now shelf shelf' old new Later (inr comes) can output = (ending_text Later, comes, output)
+refused words files before now shelf shelf' old new (OfProgram fault) (inl memory) can output = cc
+refused words files before now shelf shelf' old new (Mesh fault) (inl memory) can output = cc
+refused words files before now shelf shelf' old new (OfProgram fault) (inr comes) can output = (ending_text (OfProgram fault), comes, output)
+refused words files before now shelf shelf' old new (Mesh fault) (inr comes) can output = (ending_text (Mesh fault), comes, output)
+refused words files before now shelf shelf' old new (Limit fault) (inl memory) can output = cc
+refused words files before now shelf shelf' old new (Limit fault) (inr comes) can output = (ending_text (Limit fault), comes, output)
+refused words files before now shelf shelf' old new (ReadFault x) (inl memory) can output = cc
+refused words files before now shelf shelf' old new (ReadFault x) (inr comes) can output = (ending_text (ReadFault x), comes, output)
+
+-- the count after a refusal
+shelf_cause : (shelf shelf' : ℕ) (ended : Ended) → HasStepCause {A = Job} shelf shelf' (Err ended) → HasShelfCause shelf shelf' ended
+shelf_cause shelf shelf' (ReadFault x) h = h
+shelf_cause shelf shelf' Done h = absurd h
+shelf_cause shelf shelf' WriteFault h = absurd h
+shelf_cause shelf shelf' Usage h = h
+shelf_cause shelf shelf' Later h = h
+shelf_cause shelf shelf' (OfProgram fault) h = h
+shelf_cause shelf shelf' (Mesh fault) h = h
+shelf_cause shelf shelf' (Limit fault) h = h
+shelf_cause shelf shelf' NoMemory h = h
+
+-- and one whose line was not is what was being written
+unwritten : (words : List (List ℕ)) (files : Files) (before now : Tally) (shelf shelf' : ℕ) (old new : Option (List ℕ)) (ended : Ended)
+    → (ended ≡ NoMemory) ⊎ ResultsIn (IsLost files before now) words files (refusal ended) → HasStepCause {A = Job} shelf shelf' (Err ended)
+    → TakesPrefix old new (ending_text ended) → Answers words files (outside before shelf old) (outside now shelf' new) WriteFault
+unwritten words files before now shelf shelf' old new ended (inl memory) cause prefix =
+    (refusal ended, inr (ap refusal memory), prefix, shelf_cause shelf shelf' ended cause)
+unwritten words files before now shelf shelf' old new ended (inr comes) cause prefix =
+    (refusal ended, inl comes, prefix, shelf_cause shelf shelf' ended cause)
+
+pub refusal_answers : (words : List (List ℕ)) (files : Files) (before now : Tally) (shelf shelf' : ℕ) (old new : Option (List ℕ)) (known : Ended) (written : Result Unit Unwritten) (ended : Ended)
+    → Prepares words files before now (Err known) → HasStepCause {A = Job} shelf shelf' (Err known) → Writes (ending_text known) old new written
+    → MatchResult written (λ _. ended ≡ known) (λ _. ended ≡ WriteFault) → Answers words files (outside before shelf old) (outside now shelf' new) ended
+refusal_answers words files before now shelf shelf' old new known (Ok _) ended comes cause output is =
+    subst (Answers words files (outside before shelf old) (outside now shelf' new)) (sym is) (refused words files before now shelf shelf' old new known comes cause output)
+refusal_answers words files before now shelf shelf' old new known (Err _) ended comes cause prefix is =
+    subst (Answers words files (outside before shelf old) (outside now shelf' new)) (sym is) (unwritten words files before now shelf shelf' old new known comes cause prefix)
+
+-- What was written, over whatever shelf
+
+text_of_job : (o : Option SeqCommand) (program : Simple) (mesh : MeshLists) (text : List ℕ) → (o ≡ None → ⊥) → text ≡ done_text program mesh
+    → MatchOption o (text ≡ ending_text Usage) (λ _. ((e : Ended) × (text ≡ ending_text e)) ⊎ ((p : Simple) × (m : MeshLists) × (text ≡ done_text p m)))
+text_of_job None program mesh text some is = absurd (some refl)
+text_of_job (Some c) program mesh text some is = inr (program, mesh, is)
+
+text_of_refusal : (o : Option SeqCommand) (ended : Ended) → (o ≡ None → ended ≡ Usage)
+    → MatchOption o (ending_text ended ≡ ending_text Usage) (λ _. ((e : Ended) × (ending_text ended ≡ ending_text e)) ⊎ ((p : Simple) × (m : MeshLists) × (ending_text ended ≡ done_text p m)))
+text_of_refusal None ended usage = ap ending_text (usage refl)
+text_of_refusal (Some c) ended usage = inl (ended, refl)
+
+pub wrote_job : (words : List (List ℕ)) (old new : Option (List ℕ)) (text : List ℕ) (program : Simple) (mesh : MeshLists) (written : Result Unit Unwritten) (ended : Ended)
+    → (command_of words ≡ None → ⊥) → text ≡ done_text program mesh → Writes text old new written → MatchResult written (λ _. ended ≡ Done) (λ _. ended ≡ WriteFault)
+    → Wrote words old new ended
+wrote_job words old new text program mesh (Ok _) ended some is output ends = subst (Wrote words old new) (sym ends) (program, mesh, output ∙ ap (append_known old) is)
+wrote_job words old new text program mesh (Err _) ended some is prefix ends =
+    subst (Wrote words old new) (sym ends) (text, text_of_job (command_of words) program mesh text some is, prefix)
+
+wrote_line : (words : List (List ℕ)) (shelf shelf' : ℕ) (old new : Option (List ℕ)) (known : Ended) → HasStepCause {A = Job} shelf shelf' (Err known) → new ≡ append_known old (ending_text known) → Wrote words old new known
+wrote_line words shelf shelf' old new (ReadFault x) can output = output
+wrote_line words shelf shelf' old new Later can output = output
+wrote_line words shelf shelf' old new (OfProgram fault) can output = output
+wrote_line words shelf shelf' old new (Mesh fault) can output = output
+wrote_line words shelf shelf' old new (Limit fault) can output = output
+wrote_line words shelf shelf' old new Usage can output = output
+wrote_line words shelf shelf' old new NoMemory can output = output
+wrote_line words shelf shelf' old new Done can output = absurd can
+wrote_line words shelf shelf' old new WriteFault can output = absurd can
+
+pub wrote_refusal : (words : List (List ℕ)) (shelf shelf' : ℕ) (old new : Option (List ℕ)) (known : Ended) (written : Result Unit Unwritten) (ended : Ended)
+    → (command_of words ≡ None → known ≡ Usage) → HasStepCause {A = Job} shelf shelf' (Err known) → Writes (ending_text known) old new written
+    → MatchResult written (λ _. ended ≡ known) (λ _. ended ≡ WriteFault) → Wrote words old new ended
+wrote_refusal words shelf shelf' old new known (Ok _) ended usage can output ends = subst (Wrote words old new) (sym ends) (wrote_line words shelf shelf' old new known can output)
+wrote_refusal words shelf shelf' old new known (Err _) ended usage can prefix ends =
+    subst (Wrote words old new) (sym ends) (ending_text known, text_of_refusal (command_of words) known usage, prefix)
+
+written_cause : (shelf shelf' sink sink' : ℕ) (refusal : Ended) → HasStepCause {A = Job} shelf shelf' (Err refusal) → sink' ≡ sink → HasCauses shelf shelf' sink sink' refusal
+written_cause shelf shelf' sink sink' (ReadFault x) first second = (first, second)
+written_cause shelf shelf' sink sink' Later first second = (first, second)
+written_cause shelf shelf' sink sink' (OfProgram fault) first second = (first, second)
+written_cause shelf shelf' sink sink' (Mesh fault) first second = (first, second)
+written_cause shelf shelf' sink sink' (Limit fault) first second = (first, second)
+written_cause shelf shelf' sink sink' Usage first second = (first, second)
+written_cause shelf shelf' sink sink' NoMemory first second = (first, second)
+written_cause shelf shelf' sink sink' Done first second = absurd first
+written_cause shelf shelf' sink sink' WriteFault first second = absurd first
+
+not_fallen : (shelf shelf' : ℕ) (refusal : Ended) → HasStepCause {A = Job} shelf shelf' (Err refusal) → shelf ≤ shelf'
+not_fallen shelf shelf' (ReadFault x) first = first.0
+not_fallen shelf shelf' Later first = omega (arith, first)
+not_fallen shelf shelf' (OfProgram fault) first = omega (arith, first)
+not_fallen shelf shelf' (Mesh fault) first = omega (arith, first)
+not_fallen shelf shelf' (Limit fault) first = omega (arith, first)
+not_fallen shelf shelf' Usage first = omega (arith, first)
+not_fallen shelf shelf' NoMemory first = omega (arith, first)
+not_fallen shelf shelf' Done first = absurd first
+not_fallen shelf shelf' WriteFault first = absurd first
+
+pub causes_of : (shelf shelf' sink sink' : ℕ) (refusal : Ended) (written : Result Unit Unwritten) (ended : Ended)
+    → HasStepCause {A = Job} shelf shelf' (Err refusal) → HasCause sink sink' written → MatchResult written (λ _. ended ≡ refusal) (λ _. ended ≡ WriteFault)
+    → HasCauses shelf shelf' sink sink' ended
+causes_of shelf shelf' sink sink' first_ended (Ok _) ended first second is =
+    subst (HasCauses shelf shelf' sink sink') (sym is) (written_cause shelf shelf' sink sink' first_ended first second.kept)
+causes_of shelf shelf' sink sink' first_ended (Err _) ended first second is =
+    subst (HasCauses shelf shelf' sink sink') (sym is) (not_fallen shelf shelf' first_ended first, second.failed)

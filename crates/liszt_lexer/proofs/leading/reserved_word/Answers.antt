@@ -1,0 +1,13 @@
+use Rattle.std.proofs.Common.{◌∙◌, rules, tests}
+use Rattle.std.specs.Str.{bytes_eq}
+use Rattle.std.proofs.lemmas.Iterator.{YieldsList-from_slice}
+use Rattle.std.proofs.lemmas.Iterator.Search.{position_from_yields_List}
+use Rattle.liszt_lexer.specs.Words.{reserved_words}
+use Rattle.liszt_lexer.proofs.NameLemmas.{same_place}
+use Rattle.liszt_lexer.proofs.leading.reserved_word.Goals as goal
+
+pub returns : goal.returns
+returns c =
+    position_from_yields_List (λ word. bytes_eq word.now c.args.name.now) _ _ c.position.result c.position.ensures.ran
+    (YieldsList-from_slice _ c.iter.ensures.rest) (λ x b q k. search (rules, tests))
+    ∙ same_place c.args.name.now reserved_words

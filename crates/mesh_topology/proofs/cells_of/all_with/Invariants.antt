@@ -1,6 +1,0 @@
-use Rattle.std.proofs.Common.{◌≡◌, map, take}
-use Rattle.mesh_topology.specs.Incidence.{cells_with}
-use Rattle.mesh_topology.proofs.cells_of.all_with.Given as goal
-
-abbrev pub invariant-loop-pair : goal.invariant-loop-pair
-invariant-loop-pair l = l.all ≡ map (cells_with l.cells l.lists) (take l.pair-index l.pairs)

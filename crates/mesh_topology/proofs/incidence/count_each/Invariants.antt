@@ -1,6 +1,0 @@
-use Rattle.std.proofs.Common.{◌+◌, take}
-use Rattle.mesh_topology.specs.Incidence.{IsChanged}
-use Rattle.mesh_topology.proofs.incidence.count_each.Given as goal
-
-abbrev pub invariant-loop-y : goal.invariant-loop-y
-invariant-loop-y l = IsChanged 0 (λ n. n + 1) (take l.y-index l.row) l.initial.degrees l.degrees

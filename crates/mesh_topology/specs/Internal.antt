@@ -1,0 +1,5 @@
+-- Definitions on which no public contract rests.
+pub mod Buckets
+pub mod Combinations
+pub mod Incidence
+pub mod Tables
