@@ -1,4 +1,4 @@
--- What it is for a state to fit names. This project's own.
+-- The states that fit an environment. This project's own.
 use Rattle.std.specs.Prelude.{◌≡◌, ℕ, ◌<◌, ◌⊎◌, true, false, is_some, Some, List, length}
 use Rattle.std.specs.Option.{option_map}
 use Rattle.liszt_base.specs.MeshLists.{MeshLists}
@@ -9,16 +9,16 @@ use Rattle.phase_types.specs.Environments.{Environment, Binding, FieldName, Scal
 use Rattle.kernel_eval.specs.Preservation.{field_values}
 use Rattle.kernel_eval.specs.States.{State, scalar_value}
 
--- a built-in field, with its elements' kind
+-- a built-in field and the kind of its elements
 abbrev pub IsBuiltIn : ℕ → Kind → Type 0
 IsBuiltIn number kind = ((number < 4) × (kind ≡ Vertex)) ⊎ ((number ≡ 4) × (kind ≡ Cell))
 
--- a declared field, which has a value for each of its elements
+-- a declared field with a value for each element of its kind
 abbrev pub IsLive : MeshLists → State → ℕ → Kind → Type 0
 IsLive mesh s number kind = (is_built_in number ≡ false) × (option_map (λ values. length values) (field_values s number) ≡ Some (count mesh kind))
 
--- A STATE FITS what a name stands for in the main program: a scalar has a number there, and a field is built in or live. Local numbers and
--- elements aren't names of the main program.
+-- A STATE FITS a binding of the main program: a scalar has a value, a field is built in or live. Local numbers and elements are no
+-- bindings of the main program.
 abbrev pub EntryFits : MeshLists → State → Binding → Type 0
 EntryFits mesh s (ScalarName number) = is_some (scalar_value s number) ≡ true
 EntryFits mesh s (FieldName number kind) = IsBuiltIn number kind ⊎ IsLive mesh s number kind

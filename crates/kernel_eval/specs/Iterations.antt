@@ -1,4 +1,4 @@
--- One iteration of a comprehension: what it comes to, its acts, its end, and what it reduces scalars by. This project's own.
+-- One iteration of a comprehension: its outcome, its acts, its end, and its partial reductions of scalars. This project's own.
 use Rattle.std.specs.Prelude.{ℕ, ◌==◌, Option, Some, None, List, [], ◌∷◌, map, ℤ, Result, Ok, Err}
 use Rattle.std.specs.List.{filter, fold}
 use Rattle.liszt_base.specs.MeshLists.{MeshLists}
@@ -14,7 +14,7 @@ use Rattle.kernel_eval.specs.Outcomes.{Stop, Trapped, NoMeaning, Outcome, Done}
 use Rattle.kernel_eval.specs.States.{State, Act, EvaluationState}
 use Rattle.kernel_eval.specs.Meaning.{body_meaning}
 
--- THE ITERATION of an element by its id, from a state, with so many turns: the name of the comprehension's elements is bound to it.
+-- THE ITERATION of the element `id`, from a state, with a number of turns: the name of the comprehension denotes the element.
 abbrev pub iteration_start : Comprehension → ℕ → State → ℕ → EvaluationState
 iteration_start c turns s id =
     record {
@@ -29,11 +29,11 @@ iteration_start c turns s id =
 abbrev pub iteration : MeshLists → Comprehension → ℕ → State → ℕ → Outcome EvaluationState Done
 iteration mesh c turns s id = body_meaning mesh c.environment c.body (iteration_start c turns s id)
 
--- its acts, in order, up to its end or trap
+-- the acts of an iteration, in order, up to its end or trap
 abbrev pub acts : MeshLists → Comprehension → ℕ → State → ℕ → List Act
 acts mesh c turns s id = (iteration mesh c turns s id).after.acts
 
--- how it ends; that of something without meaning is none
+-- the end of an outcome, or none if it has no meaning
 abbrev pub end_of : {A : Type 0} → Result A Stop → Option RunEnd
 end_of (Ok value) = Some IsDone
 end_of (Err (Trapped trap)) = Some (IsTrap trap)
@@ -42,7 +42,7 @@ end_of (Err NoMeaning) = None
 abbrev pub iteration_end : MeshLists → Comprehension → ℕ → State → ℕ → Option RunEnd
 iteration_end mesh c turns s id = end_of (iteration mesh c turns s id).answer
 
--- what it reduces a scalar by, from the identity on, by the operator by which the comprehension reduces it, if it does
+-- the reductions of a scalar by an iteration, folded from the identity by the operator with which the comprehension reduces the scalar
 abbrev pub reduced_value : Option Mode → List ℤ → Option ℤ
 reduced_value (Some (Reduce op)) values = Some (fold (folded op) (identity_of op) values)
 reduced_value _ values = None

@@ -33,7 +33,7 @@ pub data Value : Type 0 where
   TruthValue : Bool → Value
   ElementValue : Option Elem → Value
 
--- a trap of this kind at a place; what has no meaning
+-- a trap of a kind at a place; the stop of what has no meaning
 abbrev pub trap : {A : Type 0} → TrapKind → Place → EvaluationState → Outcome EvaluationState A
 trap kind place m = halt (Trapped (record { kind = kind; place = place; elem = m.elem })) m
 
@@ -102,7 +102,7 @@ comparison_result Same (ElementValue x) (ElementValue y) = pure (TruthValue (sam
 comparison_result Other (ElementValue x) (ElementValue y) = pure (TruthValue (not (same x y)))
 comparison_result rel _ _ = no_meaning
 
--- CALLS on an element; of nil there is no id
+-- CALLS on an element; the id of nil is a trap
 abbrev pub id_result : Place → Option Elem → Computation EvaluationState Value
 id_result place (Some x) = pure (NumberValue (pos x.id))
 id_result place None = trap NilElement place
@@ -130,7 +130,8 @@ name_read (Some n) x global = pure (NumberValue n)
 name_read None (Some x) global = pure (ElementValue x)
 name_read None None global = global_read global
 
--- FIELDS: a built-in field is what the mesh holds, any other what the state holds. At nil an access traps, at the field's name.
+-- FIELDS: the values of built-in fields are those of the mesh, those of other fields are in the state. An access at nil traps, at the
+-- name of the field.
 abbrev pub built_in_value : MeshLists → Spot → Option ℤ
 built_in_value mesh spot =
     if spot.field == 4 then option_map (λ cell. cell.region) (slice_get mesh.cells spot.id)
@@ -151,8 +152,7 @@ field_read mesh place (Some (FieldName number kind)) (Some x) = λ m. read_spot 
 field_read mesh place (Some (FieldName number kind)) None = trap NilElement place
 field_read mesh place _ x = no_meaning
 
--- EXPRESSIONS, from the left, operands before operators; a chain is a fold from the left, which passes over the
--- operands behind one that decides
+-- EXPRESSIONS, from the left, operands before operators. A chain is a fold from the left, which skips the operands after a deciding one.
 abbrev mutual
   pub meaning : MeshLists → Environment → Expression → Computation EvaluationState Value
   meaning mesh environment (Number place n) = pure (NumberValue n)
@@ -180,7 +180,7 @@ truth_in mesh environment e = meaning mesh environment e >>= λ v. truth_of v
 abbrev pub element_in : MeshLists → Environment → Expression → Computation EvaluationState (Option Elem)
 element_in mesh environment e = meaning mesh environment e >>= λ v. element_of v
 
--- ASSIGNMENTS: `=` replaces; an operator folds the old value and the new one, and `-=` is `+=` of the negative number modulo 2^64.
+-- ASSIGNMENTS: `=` replaces the value, an operator folds the old value and the operand, and `-=` is `+=` of the negation modulo 2^64.
 abbrev pub operand : How → ℤ → ℤ
 operand Less n = value (word (neg_ℤ n))
 operand how n = n
@@ -200,7 +200,7 @@ assign_field place how (Some (FieldName number kind)) n (Some x) = λ m. assign_
 assign_field place how (Some (FieldName number kind)) n None = trap NilElement place
 assign_field place how _ n x = no_meaning
 
--- a scalar of the main program is reduced, and the reduction is kept
+-- a reduction of a scalar of the main program, which is recorded
 abbrev pub with_scalar_fold : How → ℕ → ℤ → EvaluationState → EvaluationState
 with_scalar_fold Set scalar n m = m
 with_scalar_fold (Fold op) scalar n m = with_fold (record { scalar = scalar; op = op; value = n }) m
@@ -218,7 +218,7 @@ abbrev pub assign_name : List ℕ → How → ℤ → Option ℤ → Option Bind
 assign_name name how n (Some old) global = modify (with_local_value name (assigned_value how old n))
 assign_name name how n None global = assign_global how n global
 
--- BLOCKS, turns, and the members of a set, in its order; a set of nil traps, at the set's word
+-- BLOCKS, turns, and loops over the members of a set in its order; a set of nil traps, at the word of the set
 abbrev pub in_block : Computation EvaluationState Done → Computation EvaluationState Done
 in_block body before = (body >> modify (after_block before)) before
 

@@ -1,4 +1,4 @@
--- What the laws speak of: what doing something keeps. This project's own.
+-- What computations preserve. This project's own.
 use Rattle.std.specs.Prelude.{◌≡◌, ℕ, ◌≤◌, ◌==◌, ◌++◌, Bool, Option, Some, None, List, [], ◌∷◌, ℤ}
 use Rattle.liszt_base.specs.Reductions.{fold}
 use Rattle.liszt_base.specs.declared.accesses.Mode.{Mode}
@@ -8,7 +8,7 @@ use Rattle.phase_types.specs.Walk.{OfField, OfScalar, mode_in}
 use Rattle.kernel_eval.specs.Outcomes.{Outcome, ◌>>=◌, ◌>>◌, if_then_else, skip, Turns, take_turn}
 use Rattle.kernel_eval.specs.States.{Fields, value_in, with_value, State, Act, ScalarFold, EvaluationState}
 
--- what stands afterwards is so to what stood before
+-- the state afterwards is in relation R to the state at entry
 pub record Preserves {S A : Type 0} (R : S → S → Type 0) (computation : S → Outcome S A) : Type 0 where
   pub preserved : (s : S) → R s (computation s).after
 
@@ -28,13 +28,14 @@ abbrev pub fields_after_acts : Fields → List Act → Fields
 fields_after_acts fields [] = fields
 fields_after_acts fields (act ∷ rest) = fields_after_acts (fields_after_act act (value_in fields act.spot) fields) rest
 
--- the acts are those from before and some more, and these make the fields
+-- a computation appends acts, and these applied to the fields at entry give the fields afterwards
 pub record ActsDetermineFields (m after : EvaluationState) : Type 0 where
   pub rest : List Act
   pub acts_are : after.acts ≡ m.acts ++ rest
   pub fields_are : after.state.fields ≡ fields_after_acts m.state.fields rest
 
--- THE ONE MODE of an act's field, or of a reduced scalar, in a comprehension; and what a mode, or none, leaves as it was
+-- THE MODE of an act is the one of its field in the comprehension, that of a reduction the one of its scalar. A subject that is read, or
+-- not accessed, is unchanged.
 abbrev pub HasTheMode : Comprehension → Act → Type 0
 HasTheMode c act = mode_in c (OfField act.spot.field) ≡ Some act.mode
 
@@ -49,7 +50,7 @@ ChangesNothing (Some mode) = ⊥
 abbrev pub field_values : State → ℕ → Option (List ℤ)
 field_values s field = lookup (λ number. number == field) s.fields
 
--- A LOOP ONCE MORE: its test, and where that is true a turn and the body, and then the loop
+-- A LOOP UNFOLDED: its test; if that is true, a turn and the body, and then the loop again
 abbrev pub loop_unfolded : {S : Type 0} → Turns S → (S → Outcome S (Unit {0})) → (S → Outcome S Bool) → (S → Outcome S (Unit {0}))
     → (S → Outcome S (Unit {0})) → S → Outcome S (Unit {0})
 loop_unfolded turns spent test body again =

@@ -1,4 +1,4 @@
--- The state of a program, and where a run stands inside it. This project's own.
+-- The state of a program, and that of an evaluation. This project's own.
 use Rattle.std.specs.Prelude.{ℕ, ◌-◌, ◌==◌, Bool, if◌then◌else◌, Option, None, List, [], ◌∷◌, ◌++◌, length, map, drop, slice_get, ℤ}
 use Rattle.std.specs.List.{slice_set}
 use Rattle.std.specs.Option.{option_and_then}
@@ -9,12 +9,11 @@ use Rattle.liszt_base.specs.declared.elements.Elem.{Elem}
 use Rattle.liszt_base.specs.declared.elements.Op.{Op}
 use Rattle.phase_types.specs.Environments.{lookup}
 
--- a finite map with another value at a key that it has
+-- a finite map with another value at the keys that pass a test
 abbrev pub map_update : {K A : Type 0} → (K → Bool) → A → List (K × A) → List (K × A)
 map_update is_key value entries = map (λ entry. if is_key entry.0 then (entry.0, value) else entry) entries
 
--- FIELDS that are live, by their numbers, each with its values by id: a number for each spot of a live field. What was declared last
--- comes first.
+-- THE LIVE FIELDS, each by its number with its values by id, the latest declaration first. A spot is an element of a field.
 abbrev pub Fields : Type 0
 Fields = List (ℕ × List ℤ)
 
@@ -27,7 +26,8 @@ updated_entry spot value entry = if entry.0 == spot.field then (entry.0, slice_s
 abbrev pub with_value : Spot → ℤ → Fields → Fields
 with_value spot value fields = map (updated_entry spot value) fields
 
--- THE STATE: the live fields, the scalars by their numbers, what was declared last first, the numbers printed, and the turns left
+-- THE STATE of a program: the live fields; the scalars by their numbers, the latest declaration first; the numbers printed; and the
+-- remaining turns
 pub record State : Type 0 where
   pub fields : Fields
   pub scalars : List (ℕ × ℤ)
@@ -43,20 +43,20 @@ scalar_value s number = lookup (λ other. other == number) s.scalars
 abbrev pub with_scalar_value : ℕ → ℤ → State → State
 with_scalar_value number value s = record s { scalars = map_update (λ other. other == number) value s.scalars }
 
--- ACTS: a spot is read, written, or reduced, with the value that was read, written, or reduced by
+-- AN ACT reads, writes or reduces a spot, with the value that is read, written, or the operand of the reduction.
 pub record Act : Type 0 where
   pub spot : Spot
   pub mode : Mode
   pub value : ℤ
 
--- a scalar of the main program is reduced by a value
+-- a reduction of a scalar of the main program, with its operand
 pub record ScalarFold : Type 0 where
   pub scalar : ℕ
   pub op : Op
   pub value : ℤ
 
--- A MOMENT: the state; the iteration's element, or none in the main program; the names bound to elements, or nil, and the local
--- numbers, what was declared last first; and all acts and reductions of scalars so far.
+-- THE STATE OF AN EVALUATION: the program's state; the element of the iteration, or none in the main program; the element, or nil, of
+-- each element name, and the local numbers, the latest declarations first; and the acts and reductions of scalars so far
 pub record EvaluationState : Type 0 where
   pub state : State
   pub elem : Option Elem
@@ -92,7 +92,7 @@ with_fold folded m = record m { folds = m.folds ++ folded ∷ [] }
 abbrev pub with_state : State → EvaluationState → EvaluationState
 with_state s m = record m { state = s }
 
--- behind a block the names are those from before it, with the values that they have now
+-- after a block: the names that were visible at entry, with their present values
 abbrev pub after_block : EvaluationState → EvaluationState → EvaluationState
 after_block before m =
     record m {

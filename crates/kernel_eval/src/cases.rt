@@ -12,37 +12,59 @@ ghost use Rattle.kernel_eval.specs.Meaning.{TruthValue, assigned_value};
 /// Division cuts towards zero, and the remainder has the sign of the dividend.
 fn division()
     ensures positive { value_of (binary Over (pos 7) (pos 2)) ≡ number_result (pos 3) }
-    ensures negative { value_of (binary Over (neg_ℤ (pos 7)) (pos 2)) ≡ number_result (neg_ℤ (pos 3)) }
-    ensures by_negative { value_of (binary Over (pos 7) (neg_ℤ (pos 2))) ≡ number_result (neg_ℤ (pos 3)) }
-    ensures both_negative { value_of (binary Over (neg_ℤ (pos 7)) (neg_ℤ (pos 2))) ≡ number_result (pos 3) }
+    ensures negative { value_of (binary Over (neg_ℤ (pos 7)) (pos 2))
+        ≡ number_result (neg_ℤ (pos 3)) }
+    ensures by_negative { value_of (binary Over (pos 7) (neg_ℤ (pos 2)))
+        ≡ number_result (neg_ℤ (pos 3)) }
+    ensures both_negative { value_of (binary Over (neg_ℤ (pos 7)) (neg_ℤ (pos 2)))
+        ≡ number_result (pos 3) }
     ensures rest { value_of (binary Rest (pos 7) (pos 2)) ≡ number_result (pos 1) }
-    ensures rest_of_negative { value_of (binary Rest (neg_ℤ (pos 7)) (pos 2)) ≡ number_result (neg_ℤ (pos 1)) }
-    ensures rest_by_negative { value_of (binary Rest (pos 7) (neg_ℤ (pos 2))) ≡ number_result (pos 1) }
-    ensures by_zero { value_of (binary Over (pos 1) (pos 0)) ≡ trap_result ZeroDivide operator_place }
-    ensures rest_by_zero { value_of (binary Rest (pos 1) (pos 0)) ≡ trap_result ZeroDivide operator_place }
+    ensures rest_of_negative { value_of (binary Rest (neg_ℤ (pos 7)) (pos 2))
+        ≡ number_result (neg_ℤ (pos 1)) }
+    ensures rest_by_negative { value_of (binary Rest (pos 7) (neg_ℤ (pos 2)))
+        ≡ number_result (pos 1) }
+    ensures by_zero { value_of (binary Over (pos 1) (pos 0))
+        ≡ trap_result ZeroDivide operator_place }
+    ensures rest_by_zero { value_of (binary Rest (pos 1) (pos 0))
+        ≡ trap_result ZeroDivide operator_place }
 {}
 
-/// Overflow stands at the operator, and the remainder of the least number by -1 is 0.
+/// Overflow is at the operator, and the remainder of the least number by -1 is 0.
 fn overflow()
-    ensures least_by_minus_one { value_of (binary Over least_number (neg_ℤ (pos 1))) ≡ trap_result Overflow operator_place }
-    ensures rest_by_minus_one { value_of (binary Rest least_number (neg_ℤ (pos 1))) ≡ number_result (pos 0) }
-    ensures sum { value_of (binary Plus greatest_number (pos 1)) ≡ trap_result Overflow operator_place }
-    ensures difference { value_of (binary Minus least_number (pos 1)) ≡ trap_result Overflow operator_place }
-    ensures product { value_of (binary Times greatest_number (pos 2)) ≡ trap_result Overflow operator_place }
-    ensures least_difference { value_of (binary Minus (neg_ℤ greatest_number) (pos 1)) ≡ number_result least_number }
-    ensures minus_least { value_of (negation_of least_number) ≡ trap_result Overflow operator_place }
-    ensures minus_greatest { value_of (negation_of greatest_number) ≡ number_result (neg_ℤ greatest_number) }
-    ensures chain { value_of (chained (pos 1) Minus (pos 2) Minus (pos 3)) ≡ number_result (neg_ℤ (pos 4)) }
-    ensures second_operator { value_of (chained greatest_number Minus (pos 1) Plus (pos 2)) ≡ trap_result Overflow operator_place }
+    ensures least_by_minus_one { value_of (binary Over least_number (neg_ℤ (pos 1)))
+        ≡ trap_result Overflow operator_place }
+    ensures rest_by_minus_one { value_of (binary Rest least_number (neg_ℤ (pos 1)))
+        ≡ number_result (pos 0) }
+    ensures sum { value_of (binary Plus greatest_number (pos 1))
+        ≡ trap_result Overflow operator_place }
+    ensures difference { value_of (binary Minus least_number (pos 1))
+        ≡ trap_result Overflow operator_place }
+    ensures product { value_of (binary Times greatest_number (pos 2))
+        ≡ trap_result Overflow operator_place }
+    ensures least_difference { value_of (binary Minus (neg_ℤ greatest_number) (pos 1))
+        ≡ number_result least_number }
+    ensures minus_least { value_of (negation_of least_number)
+        ≡ trap_result Overflow operator_place }
+    ensures minus_greatest { value_of (negation_of greatest_number)
+        ≡ number_result (neg_ℤ greatest_number) }
+    ensures chain { value_of (chained (pos 1) Minus (pos 2) Minus (pos 3))
+        ≡ number_result (neg_ℤ (pos 4)) }
+    ensures second_operator { value_of (chained greatest_number Minus (pos 1) Plus (pos 2))
+        ≡ trap_result Overflow operator_place }
 {}
 
-/// `false && 1 / 0 == 0` and `true || 1 / 0 == 0` stop at the first operand; the other way round the division traps.
+/// `false && 1 / 0 == 0` and `true || 1 / 0 == 0` stop at the first operand; with the operands swapped the division traps.
 fn stopping()
-    ensures decided_and { value_of (both (equality (pos 0) (pos 1)) divides_by_zero) ≡ Ok (TruthValue false) }
-    ensures decided_or { value_of (either (equality (pos 0) (pos 0)) divides_by_zero) ≡ Ok (TruthValue true) }
-    ensures open_and { value_of (both (equality (pos 0) (pos 0)) divides_by_zero) ≡ trap_result ZeroDivide operator_place }
-    ensures open_or { value_of (either (equality (pos 0) (pos 1)) divides_by_zero) ≡ trap_result ZeroDivide operator_place }
-    ensures swapped { value_of (both divides_by_zero (equality (pos 0) (pos 1))) ≡ trap_result ZeroDivide operator_place }
+    ensures decided_and { value_of (both (equality (pos 0) (pos 1)) divides_by_zero)
+        ≡ Ok (TruthValue false) }
+    ensures decided_or { value_of (either (equality (pos 0) (pos 0)) divides_by_zero)
+        ≡ Ok (TruthValue true) }
+    ensures open_and { value_of (both (equality (pos 0) (pos 0)) divides_by_zero)
+        ≡ trap_result ZeroDivide operator_place }
+    ensures open_or { value_of (either (equality (pos 0) (pos 1)) divides_by_zero)
+        ≡ trap_result ZeroDivide operator_place }
+    ensures swapped { value_of (both divides_by_zero (equality (pos 0) (pos 1)))
+        ≡ trap_result ZeroDivide operator_place }
 {}
 
 /// `+=` wraps around, `-=` adds the negative number modulo 2^64, also of the least number, and `min=` takes the lesser one.
@@ -50,7 +72,8 @@ fn assignments()
     ensures wraps { assigned_value (Fold Add) greatest_number greatest_number ≡ neg_ℤ (pos 2) }
     ensures takes { assigned_value Less (pos 5) (pos 7) ≡ neg_ℤ (pos 2) }
     ensures takes_least { assigned_value Less (pos 0) least_number ≡ least_number }
-    ensures takes_least_of_less { assigned_value Less (neg_ℤ (pos 1)) least_number ≡ greatest_number }
+    ensures takes_least_of_less { assigned_value Less (neg_ℤ (pos 1)) least_number
+        ≡ greatest_number }
     ensures lesser { assigned_value (Fold Min) (pos 7) (pos 9) ≡ pos 7 }
     ensures replaces { assigned_value Set (pos 7) (pos 9) ≡ pos 9 }
 {}

@@ -1,4 +1,4 @@
-//! What the bodies of comprehensions mean. So far there are the definitions, with worked cases and laws.
+//! The meaning of the bodies of comprehensions. So far definitions, with worked cases and laws.
 #![tactic(auto)]
 
 mod cases;

@@ -1,5 +1,5 @@
 -- What the main program keeps because each of its single changes of the state does: one induction over items and blocks.
-use Rattle.std.proofs.Common.{◌≡◌, ℕ, suc, ◌≤◌, ◌^◌, nat_lt, length, ◌++◌, [], ◌∷◌, refl, arith}
+use Rattle.std.proofs.Common.{◌≡◌, ℕ, suc, ◌≤◌, nat_lt, length, ◌++◌, [], ◌∷◌, refl, arith}
 use Rattle.std.specs.Prelude.{Option, Some, None, ℤ, Result, Ok, Err}
 use Rattle.liszt_base.specs.MeshLists.{MeshLists}
 use Rattle.liszt_base.specs.declared.answers.Place.{Place}
@@ -16,7 +16,7 @@ use Rattle.kernel_eval.specs.States.{State, scalar_value, with_scalar_value, mai
 use Rattle.kernel_eval.proofs.ComputationLemmas.{LeadsOn, keeps_then, keeps_if, skip_keeps, keeps_loop}
 use Rattle.kernel_eval.proofs.PreservationLemmas.{keeps_number_in, keeps_truth_in}
 use Rattle.kernel_eval.proofs.ActLemmas.{turns_kept}
-use Rattle.seq_meaning.specs.Runs.{Event, FieldDeclared, ScopeOpened, ScopeClosed, ComprehensionReached, Progress, log_event, lift_state, in_program, number_at, truth_at, with_field, with_scalar, modify_state, assign_main_scalar, assign_main_name, print_number, after_scope, in_scope, program_turns, after_iteration, comprehension, restored_outcome, all_or_nothing, item_meaning, main_meaning}
+use Rattle.seq_meaning.specs.Runs.{print_limit, Event, FieldDeclared, ScopeOpened, ScopeClosed, ComprehensionReached, Progress, log_event, lift_state, in_program, number_at, truth_at, with_field, with_scalar, modify_state, assign_main_scalar, assign_main_name, print_number, after_scope, in_scope, program_turns, after_iteration, comprehension, restored_outcome, all_or_nothing, item_meaning, main_meaning}
 use Rattle.seq_meaning.proofs.IterationLemmas.{each_stays}
 
 pub record IsStateKept (R : State → State → Type 0) : Type 0 where
@@ -68,7 +68,7 @@ module _ {R : State → State → Type 0} (k : IsStateKept R) where
 
   printed_keeps : (place : Place) (n : ℤ) → Preserves OfStates (print_number place n)
   printed_keeps place n = record {
-    preserved = λ p. (keeps_if (nat_lt (length p.state.prints) (2 ^ 16)) (print_keeps n) (traps_keep Prints place)).preserved p;
+    preserved = λ p. (keeps_if (nat_lt (length p.state.prints) print_limit) (print_keeps n) (traps_keep Prints place)).preserved p;
   }
 
   declared_keeps : (number elements : ℕ) (n : ℤ) → Preserves OfStates (modify_state (with_field number elements n))

@@ -1,5 +1,5 @@
 -- A typed program ends, done or by a trap: from a state that fits the names at a place, each item comes to one that fits those behind it.
-use Rattle.std.proofs.Common.{◌≡◌, ◌⊎◌, ℕ, zero, suc, ◌+◌, ◌<◌, ◌≤◌, ◌==◌, ◌^◌, nat_lt, Bool, true, false, List, [], ◌∷◌, ◌++◌, length, refl, sym, ap, subst, ◌∙◌, inl, inr, arith, ne_eqb, eq-eqb}
+use Rattle.std.proofs.Common.{◌≡◌, ◌⊎◌, ℕ, zero, suc, ◌+◌, ◌<◌, ◌≤◌, ◌==◌, nat_lt, Bool, true, false, List, [], ◌∷◌, ◌++◌, length, refl, sym, ap, subst, ◌∙◌, inl, inr, arith, ne_eqb, eq-eqb}
 use Rattle.std.proofs.lemmas.Bool.{cases_Bool, le-ltb}
 use Rattle.std.proofs.lemmas.List.{append_assoc, length-append, length-replicate}
 use Rattle.std.proofs.lemmas.List.Elements.{filter_map-append}
@@ -28,7 +28,7 @@ use Rattle.kernel_eval.specs.States.{State, EvaluationState, scalar_value, main_
 use Rattle.kernel_eval.specs.Iterations.{iteration, end_of}
 use Rattle.kernel_eval.proofs.TypedEvaluationLemmas.{EndsIn, Comes, Ends, ends_then, ends_if, EvaluationFits, at_first, Fits, number_ends, truth_ends, is_an_end, iteration_ends, iteration_fits}
 use Rattle.kernel_eval.proofs.ShapeLemmas.{still_fits, map_update_shape}
-use Rattle.seq_meaning.specs.Runs.{Event, Progress, ScopeOpened, ScopeClosed, FieldDeclared, ComprehensionReached, log_event, lift_state, in_program, number_at, truth_at, with_field, with_scalar, modify_state, assign_main_scalar, assign_main_name, print_number, after_scope, in_scope, program_turns, after_iteration, comprehension, restored_outcome, all_or_nothing, item_meaning, main_meaning, empty, run, run_end}
+use Rattle.seq_meaning.specs.Runs.{print_limit, Event, Progress, ScopeOpened, ScopeClosed, FieldDeclared, ComprehensionReached, log_event, lift_state, in_program, number_at, truth_at, with_field, with_scalar, modify_state, assign_main_scalar, assign_main_name, print_number, after_scope, in_scope, program_turns, after_iteration, comprehension, restored_outcome, all_or_nothing, item_meaning, main_meaning, empty, run, run_end}
 use Rattle.seq_meaning.proofs.StateShapeLemmas.{Grows, scope_like, grows_kept}
 use Rattle.seq_meaning.proofs.MainPreservationLemmas.{OfStates, main_keeps}
 
@@ -266,7 +266,7 @@ module _ (mesh : MeshLists) where
 
   printed_ends : (site : Site) (place : Place) (n : ℤ) → Ends (FitsAt site) Nothing (FitsAt site) (print_number place n)
   printed_ends site place n = record {
-    ends = λ p h. (ends_if (nat_lt (length p.state.prints) (2 ^ 16)) (added_ends site n) (prints_end site place)).ends p h;
+    ends = λ p h. (ends_if (nat_lt (length p.state.prints) print_limit) (added_ends site n) (prints_end site place)).ends p h;
   }
 
   -- SCOPES and loops

@@ -1,6 +1,6 @@
--- What a comprehension and a whole program mean, and the path of a run. This project's own profile after Liszt (DeVito et al.,
+-- The meaning of comprehensions and of programs, and the path of a run. This project's own profile after Liszt (DeVito et al.,
 -- Supercomputing 2011).
-use Rattle.std.specs.Prelude.{ℕ, ◌-◌, ◌^◌, nat_lt, Bool, Option, Some, None, List, [], ◌∷◌, ◌++◌, length, drop, reverse, replicate, ℤ, Result, Ok, Err}
+use Rattle.std.specs.Prelude.{ℕ, ◌-◌, nat_lt, Bool, Option, Some, None, List, [], ◌∷◌, ◌++◌, length, drop, reverse, replicate, ℤ, Result, Ok, Err}
 use Rattle.std.specs.List.{filter_map}
 use Rattle.liszt_base.specs.MeshLists.{MeshLists}
 use Rattle.liszt_base.specs.declared.answers.Place.{Place}
@@ -15,8 +15,8 @@ use Rattle.kernel_eval.specs.States.{Fields, State, scalar_value, with_scalar_va
 use Rattle.kernel_eval.specs.Meaning.{trap, no_meaning, assigned_value, number_in, truth_in}
 use Rattle.kernel_eval.specs.Iterations.{iteration, end_of}
 
--- A COMPREHENSION: its iterations in the order of ids, each from the state that the one before left, with turns of its own, up to the
--- first stop
+-- A COMPREHENSION: its iterations by ascending id, each from the state after the previous one and with turns of its own, up to the first
+-- stop
 abbrev pub after_iteration : MeshLists → Comprehension → ℕ → ℕ → Computation State Done
 after_iteration mesh c turns id s =
     let outcome : Outcome EvaluationState Done = iteration mesh c turns s id in
@@ -25,7 +25,7 @@ after_iteration mesh c turns id s =
 abbrev pub comprehension : MeshLists → Comprehension → ℕ → Computation State Done
 comprehension mesh c turns = for_each (after_iteration mesh c turns) (numbers 0 (count mesh c.over))
 
--- of one that stops nothing is left but its stop
+-- after a stop the state is the one at entry
 abbrev pub restored_outcome : {A : Type 0} → State → State → Result A Stop → Outcome State A
 restored_outcome before after (Ok value) = pure value after
 restored_outcome before after (Err stop) = halt stop before
@@ -33,8 +33,8 @@ restored_outcome before after (Err stop) = halt stop before
 abbrev pub all_or_nothing : {A : Type 0} → (State → Outcome State A) → State → Outcome State A
 all_or_nothing computation s = restored_outcome s (computation s).after (computation s).answer
 
--- THE PATH of a run: scopes opened and closed, fields declared with their values, comprehensions met, and the end, each with the state
--- there: behind what was opened, declared or closed, and before a comprehension
+-- THE PATH of a run: scopes opened and closed, fields declared with their values, comprehensions reached, and the end, each with the state
+-- there: after an opening, a declaration or a closing, and before a comprehension
 pub data Event : Type 0 where
   ScopeOpened : ℕ → Event
   ScopeClosed : ℕ → Event
@@ -53,7 +53,7 @@ pub record Progress : Type 0 where
 abbrev pub log_event : Event → Computation Progress Done
 log_event event = modify (λ p. record p { path = p.path ++ record { event = event; at = p.state } ∷ [] })
 
--- something done to the state, and an expression of the main program
+-- a computation on the state; an expression of the main program
 abbrev pub lift_state : {A : Type 0} → (State → Outcome State A) → Progress → Outcome Progress A
 lift_state computation p = record { after = record p { state = (computation p.state).after }; answer = (computation p.state).answer }
 
@@ -88,12 +88,15 @@ abbrev pub assign_main_name : How → ℤ → Option Binding → Computation Pro
 assign_main_name how n (Some (ScalarName number)) = λ p. assign_main_scalar how n number (scalar_value p.state number) p
 assign_main_name how n _ = in_program no_meaning
 
--- at most 65,536 numbers are printed
+-- the greatest number of numbers that a run prints
+abbrev pub print_limit : ℕ
+print_limit = 65536
+
 abbrev pub print_number : Place → ℤ → Computation Progress Done
 print_number place n p =
-    if_then_else (nat_lt (length p.state.prints) (2 ^ 16)) (modify_state (λ s. record s { prints = s.prints ++ n ∷ [] })) (in_program (trap Prints place)) p
+    if_then_else (nat_lt (length p.state.prints) print_limit) (modify_state (λ s. record s { prints = s.prints ++ n ∷ [] })) (in_program (trap Prints place)) p
 
--- SCOPES: what is declared in one ends with it
+-- SCOPES: the declarations in a scope end with it
 abbrev pub after_scope : State → State → State
 after_scope before s =
     record s {
@@ -108,7 +111,7 @@ in_scope number block p =
 abbrev pub program_turns : Turns Progress
 program_turns = record { remaining = λ p. p.state.turns; set_remaining = λ n p. record p { state = record p.state { turns = n } } }
 
--- ITEMS and the main program, each iteration of a comprehension with so many turns
+-- ITEMS and the main program; each iteration of a comprehension has `turns` turns
 abbrev mutual
   pub item_meaning : MeshLists → ℕ → Site → MainItem → Computation Progress Done
   item_meaning mesh turns site (MainField place name at kind init) =
@@ -132,8 +135,7 @@ abbrev mutual
   main_meaning mesh turns site no_item = skip
   main_meaning mesh turns site (item i rest) = item_meaning mesh turns site i >> main_meaning mesh turns (after_item site i) rest
 
--- A RUN, with so many turns for the main program and for each iteration, from the empty state: scope 0 is opened first and never
--- closed.
+-- A RUN from the empty state, with `turns` turns for the main program and for each iteration. Scope 0 is opened first and never closed.
 abbrev pub empty : ℕ → State
 empty turns = record { fields = []; scalars = []; prints = []; turns = turns }
 
@@ -146,7 +148,7 @@ prints_of mesh program turns = (run mesh program turns).after.state.prints
 abbrev pub run_end : MeshLists → Main → ℕ → Option RunEnd
 run_end mesh program turns = end_of (run mesh program turns).answer
 
--- where the run is done, the fields of the outermost scope in the order of the text
+-- the fields of the outermost scope in the order of the text, if the run is done
 abbrev pub outermost_fields : {A : Type 0} → Result A Stop → State → Option Fields
 outermost_fields (Ok value) s = Some (reverse s.fields)
 outermost_fields (Err stop) s = None
@@ -161,7 +163,7 @@ end_entry (Some ending) s = record { event = RunEnded ending; at = s } ∷ []
 abbrev pub path_of : MeshLists → Main → ℕ → List Entry
 path_of mesh program turns = (run mesh program turns).after.path ++ end_entry (run_end mesh program turns) (run mesh program turns).after.state
 
--- PHASES: the comprehensions met, each by its number in the text, with the state before it
+-- PHASES: the comprehensions reached, each by its number in the text, with the state before it
 abbrev pub phase_at : Entry → Option (ℕ × State)
 phase_at entry = of_event entry.event where
   of_event : Event → Option (ℕ × State)

@@ -15,19 +15,23 @@ ghost use Rattle.kernel_eval.specs.Preservation.{ChangesNothing, field_values, l
 ghost use Rattle.kernel_eval.specs.States.{State};
 ghost use Rattle.seq_meaning.specs.Runs.{Progress, comprehension, in_program, in_scope, item_meaning, main_meaning, program_turns, run_end, truth_at};
 
-/// A comprehension changes no field that it doesn't write or reduce, and takes none of the main program's turns.
+/// A comprehension changes no field that it does not write or reduce, and does not change the turns of the main program.
 pub fn comprehensions_preserve_other_fields()
-    ensures fields { (mesh : MeshLists) (c : Comprehension) (turns : ℕ) (s : State) (field : ℕ) → ComprehensionFits c
-        → ChangesNothing (mode_in c (OfField field)) → field_values (comprehension mesh c turns s).after field ≡ field_values s field }
-    ensures turns { (mesh : MeshLists) (c : Comprehension) (turns : ℕ) (s : State) → (comprehension mesh c turns s).after.turns ≡ s.turns }
+    ensures fields { (mesh : MeshLists) (c : Comprehension) (turns : ℕ) (s : State) (field : ℕ)
+        → ComprehensionFits c
+        → ChangesNothing (mode_in c (OfField field))
+        → field_values (comprehension mesh c turns s).after field ≡ field_values s field }
+    ensures turns { (mesh : MeshLists) (c : Comprehension) (turns : ℕ) (s : State)
+        → (comprehension mesh c turns s).after.turns ≡ s.turns }
 {}
 
-/// The turns of the main program never rise, and its `while` is its test, and where that is true a turn, its block, and then the same `while` again;
-/// where no turn is left it traps. So turns alone bound it.
+/// No program increases the number of turns, and a `while` of the main program unfolds: its test; if that is true, a turn, its block,
+/// and the same `while` again; if no turn remains, a trap. So turns are its only bound.
 pub fn main_loops_unfold()
     ensures turns { (mesh : MeshLists) (turns : ℕ) (site : Site) (program : Main) (p : Progress)
         → (main_meaning mesh turns site program p).after.state.turns ≤ p.state.turns }
-    ensures unfolded { (mesh : MeshLists) (turns : ℕ) (site : Site) (place : Place) (test : Expression) (body : Main) (p : Progress)
+    ensures unfolded { (mesh : MeshLists) (turns : ℕ) (site : Site) (place : Place)
+        (test : Expression) (body : Main) (p : Progress)
         → item_meaning mesh turns site (MainWhile place test body) p
         ≡ loop_unfolded program_turns (in_program (trap Spent place)) (truth_at mesh site test)
         (in_scope (next_scope site) (main_meaning mesh turns (block_start site) body))
@@ -36,6 +40,7 @@ pub fn main_loops_unfold()
 
 /// A typed program has a meaning: its run ends, done or by a trap.
 pub fn typed_programs_end()
-    ensures { (mesh : MeshLists) (program : Main) (turns : ℕ) → IsMesh (length mesh.points) (corner_lists mesh) → IsTyped program
+    ensures { (mesh : MeshLists) (program : Main) (turns : ℕ)
+        → IsMesh (length mesh.points) (corner_lists mesh) → IsTyped program
         → is_some (run_end mesh program turns) ≡ true }
 {}

@@ -1,4 +1,4 @@
-//! What whole programs mean. So far there are the definitions, with worked cases and laws.
+//! The meaning of whole programs. So far definitions, with worked cases and laws.
 #![tactic(auto)]
 
 mod cases;

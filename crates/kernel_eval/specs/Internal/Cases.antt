@@ -15,7 +15,7 @@ use Rattle.kernel_eval.specs.Meaning.{Value, NumberValue, meaning}
 abbrev pub empty : State
 empty = record { fields = []; scalars = []; prints = []; turns = 0 }
 
--- what an expression without names gives, or the trap
+-- the value of an expression without names, or its trap
 abbrev pub value_of : Expression → Result Value Stop
 value_of e = (meaning one_cell [] e (main_evaluation empty)).answer
 
@@ -34,14 +34,14 @@ greatest_number = pos (2 ^ 63 - 1)
 abbrev pub operator_place : Place
 operator_place = record { line = 3; col = 7 }
 
--- two numbers by an operator that stands at that place
+-- an operator of two numbers, at `operator_place`
 abbrev pub binary : Sign → ℤ → ℤ → Expression
 binary s a b = Chain level.Product (Number nowhere a) (link s operator_place (Number nowhere b) no_links)
 
 abbrev pub negation_of : ℤ → Expression
 negation_of n = Neg operator_place (Number nowhere n)
 
--- `1 / 0 == 0`, with `/` at that place, behind another operand
+-- `1 / 0 == 0`, with `/` at `operator_place`
 abbrev pub divides_by_zero : Expression
 divides_by_zero = Compare nowhere Equal (binary sign.Over (pos 1) (pos 0)) (Number nowhere (pos 0))
 
@@ -54,6 +54,6 @@ both a b = Chain level.And a (link sign.And nowhere b no_links)
 abbrev pub either : Expression → Expression → Expression
 either a b = Chain level.Or a (link sign.Or nowhere b no_links)
 
--- three numbers by two operators, the second at that place
+-- two operators of three numbers, the second at `operator_place`
 abbrev pub chained : ℤ → Sign → ℤ → Sign → ℤ → Expression
 chained a s b t c = Chain level.Sum (Number nowhere a) (link s nowhere (Number nowhere b) (link t operator_place (Number nowhere c) no_links))

@@ -1,4 +1,4 @@
--- Programs and meshes of the worked cases, with the places of their texts where a trap may stand. This project's own.
+-- Programs and meshes of the worked cases, with the places in their texts at which a trap can be. This project's own.
 use Rattle.std.specs.Prelude.{ℕ, ◌-◌, ◌^◌, true, false, Option, Some, None, List, [], ◌∷◌, codes, replicate, slice_get, unwrap_or, ℤ, pos, neg_ℤ}
 use Rattle.std.specs.Option.{option_map}
 use Rattle.liszt_base.specs.MeshLists.{MeshLists}
@@ -300,6 +300,6 @@ scopes_of_branches =
     below_zero : ℕ → Expression
     below_zero n = Compare nowhere Equal (number n) (number 0)
 
--- so many numbers printed
+-- a run that has printed `n` numbers
 abbrev pub with_prints : ℕ → Progress
 with_prints n = record { state = record { fields = []; scalars = []; prints = replicate n (pos 1); turns = 0 }; path = [] }
