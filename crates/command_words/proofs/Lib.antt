@@ -1,6 +1,6 @@
-pub mod Digits
-pub mod Words
-pub mod WordFronts
+pub mod DigitLemmas
+pub mod WordLemmas
+pub mod WordPrefixes
 pub mod MatchRows
 pub mod MatchSteps
 pub mod MatchWalk

@@ -35,17 +35,17 @@ row_by id = find (λ r. bytes_eq r.id id)
 abbrev pub Holds : (Text → Option Text) → List Row → Type 0
 Holds value rows = (id : Text) → row_by id rows ≡ option_map (row id) (value id)
 
-abbrev pub put : Text → Text → (Text → Option Text) → Text → Option Text
-put id new value other = cond (bytes_eq id other) (Some new) (value other)
+abbrev pub value_put : Text → Text → (Text → Option Text) → Text → Option Text
+value_put id new value other = cond (bytes_eq id other) (Some new) (value other)
 
 -- the values are these turns and plain words
 abbrev pub Are : Option Text → List Text → (Text → Option Text) → Type 0
 Are turns plain value = (value (codes "turns") ≡ turns) × (value (codes "mode") ≡ slice_get plain 0) × (value (codes "program") ≡ slice_get plain 1)
     × (value (codes "node") ≡ slice_get plain 2) × (value (codes "ele") ≡ slice_get plain 3)
 
-any_found : {X : Type 0} (p : X → Bool) (xs : List X) → list_any p xs ≡ is_some (find p xs)
-any_found p [] = refl
-any_found p (x ∷ xs) = go (p x) (any_found p xs)
+match_some : {X : Type 0} (p : X → Bool) (xs : List X) → list_any p xs ≡ is_some (find p xs)
+match_some p [] = refl
+match_some p (x ∷ xs) = go (p x) (match_some p xs)
   where
     go : (b : Bool) → list_any p xs ≡ is_some (find p xs) → (b || list_any p xs) ≡ is_some (cond b (Some x) (find p xs))
     go true e = refl
@@ -65,7 +65,7 @@ or_none None = refl
 or_none (Some x) = refl
 
 pub holds_more : (id new : Text) (value : Text → Option Text) (rows : List Row) → value id ≡ None → Holds value rows
-    → Holds (put id new value) (rows ++ row id new ∷ [])
+    → Holds (value_put id new value) (rows ++ row id new ∷ [])
 holds_more id new value rows none h other = find-append (λ r. bytes_eq r.id other) rows (row id new ∷ []) ∙ go (bytes_eq id other) refl
   where
     go : (b : Bool) → bytes_eq id other ≡ b
@@ -86,5 +86,5 @@ used_once id new long index rows none =
 pub passes_once : (again : Bool) (id new : Text) (long : Option Text) (index : Option ℕ) (rows : List Row) → row_by id rows ≡ None
     → use_passes again (one_value id long index) (new ∷ []) rows ≡ true
 passes_once again id new long index rows none =
-    let free : has_row id rows ≡ false = any_found (λ r. bytes_eq r.id id) rows ∙ ap is_some none in
+    let free : has_row id rows ≡ false = match_some (λ r. bytes_eq r.id id) rows ∙ ap is_some none in
     rw free refl

@@ -63,9 +63,9 @@ pub value_step : (c : List Rule) (word : Text) (position : ℕ) (h : Held) → a
     → h.pending ≡ Some (codes "turns", []) → walked c [] (behind (codes "turns") h position) word
     ≡ between (record { rows = h.rows; pending = Some (codes "turns", word ∷ []); skip = h.skip }) position
 unfolding walked
-value_step c word position h by name waits =
+value_step c word position h by name pending_option =
     let f = no_flag word name in
-    rw (f.0, f.1, f.2, by, waits) refl
+    rw (f.0, f.1, f.2, by, pending_option) refl
 
 pub value_passes : (s : Shape) (word : Text) (position : ℕ) (h : Held) → is_name word ≡ true → turn_passes s [] (behind (codes "turns") h position) word ≡ true
 value_passes s word position h name =

@@ -10,12 +10,12 @@ use Rattle.clap.specs.Simple.{Shape}
 use Rattle.clap.specs.Takes.{settle_passes, turn_passes, walk_passes}
 use Rattle.command_words.specs.declared.options.OptionName.{OptionName}
 use Rattle.command_words.specs.declared.options.OptionName.TheVariants.{Workers, Ranks, Parts, Turns}
-use Rattle.command_words.specs.Commands.{Given, SeqCommand, Sorted, after, command_in, given_by, is_name, not_empty, option_of, option_word, sorted_behind, sorted_by, turns_in, with_option, with_plain}
-use Rattle.command_words.specs.CommandReading.{command_after, turns_given, with_front}
-use Rattle.command_words.proofs.MatchRows.{Are, Holds, holds_more, one_value, passes_once, put, row, used_once}
+use Rattle.command_words.specs.Commands.{GivenOption, SeqCommand, SortedWords, after_prefix, command_in, option_with_value, is_name, nonempty_value, option_of, option_word, sorted_words_after, sorted_words_with, turns_in, with_option, with_plain}
+use Rattle.command_words.specs.Internal.CommandReading.{command_after, turns_options, prepend_words}
+use Rattle.command_words.proofs.MatchRows.{Are, Holds, holds_more, one_value, passes_once, value_put, row, used_once}
 use Rattle.command_words.proofs.MatchSteps.{behind, between, joined_passes, joined_step, option_passes, option_step, plain_passes, plain_step, turns_value, value_passes, value_step, with_pending, with_used}
-use Rattle.command_words.proofs.WordFronts.{after_takes}
-use Rattle.command_words.proofs.Words.{no_command, plain_next}
+use Rattle.command_words.proofs.WordPrefixes.{after_prefix_splits}
+use Rattle.command_words.proofs.WordLemmas.{no_command, plain_next}
 
 -- the positional of this id stands at this place
 abbrev pub Serves : Shape → ℕ → Text → Type 0
@@ -57,7 +57,7 @@ pub record Ends (s : Shape) (h : Held) (command : SeqCommand) : Type 0 where
   pub turns : Option Text
   pub plain : List Text
   pub good : Good s turns plain h
-  pub names : command_after None (turns_given turns) plain [] ≡ Some command
+  pub remaining_command : command_after None (turns_options turns) plain [] ≡ Some command
 
 pub record Reads (s : Shape) (w : Walk) (words : List Text) (command : SeqCommand) : Type 0 where
   pub passes : walk_passes s [] w words ≡ true
@@ -65,8 +65,8 @@ pub record Reads (s : Shape) (w : Walk) (words : List Text) (command : SeqComman
 
 -- words that name a command behind what was taken so far are read
 abbrev pub Takes : Shape → SeqCommand → List Text → Type 0
-Takes s command words = (waits : Option OptionName) (turns : Option Text) (plain : List Text) (h : Held) → Stands s waits turns plain h
-    → command_after waits (turns_given turns) plain words ≡ Some command → Reads s (standing waits h (suc (length plain))) words command
+Takes s command words = (pending_option : Option OptionName) (turns : Option Text) (plain : List Text) (h : Held) → Stands s pending_option turns plain h
+    → command_after pending_option (turns_options turns) plain words ≡ Some command → Reads s (standing pending_option h (suc (length plain))) words command
 
 -- one word more
 next : (s : Shape) (w v : Walk) (word : Text) (rest : List Text) (command : SeqCommand) → turn_passes s [] w word ≡ true
@@ -80,22 +80,22 @@ next s w v word rest command turn step reads = record {
 -- a value that waits
 good_pending : (s : Shape) (id new : Text) (long : Option Text) (index : Option ℕ) (turns : Option Text) (plain : List Text) (rows : List Row)
     (skip : ℕ) (values : Text → Option Text) → arg_by_id s.rules id ≡ Some (one_value id long index) → values id ≡ None → Holds values rows
-    → Are turns plain (put id new values) → Good s turns plain (record { rows = rows; pending = Some (id, new ∷ []); skip = skip })
+    → Are turns plain (value_put id new values) → Good s turns plain (record { rows = rows; pending = Some (id, new ∷ []); skip = skip })
 good_pending s id new long index turns plain rows skip values by none holds are =
     let free = holds id ∙ ap (option_map (row id)) none in
     record {
       settles = rw by (passes_once s.args_override_self id new long index rows free);
-      values = put id new values;
+      values = value_put id new values;
       holds = rw (by, used_once id new long index rows free) (holds_more id new values rows none holds);
       are = are;
     }
 
 -- the command of what was taken so far and of the words behind it
-abbrev command_with : Option Text → List Text → Option Sorted → Option SeqCommand
-command_with turns plain = option_and_then (λ sorted. command_in (with_front (turns_given turns) plain sorted))
+abbrev command_with : Option Text → List Text → Option SortedWords → Option SeqCommand
+command_with turns plain = option_and_then (λ sorted. command_in (prepend_words (turns_options turns) plain sorted))
 
 -- an option is `--turns`, and no other stands before it
-turns_next : (name : OptionName) (turns : Option Text) (value : Text) (plain : List Text) (rest : Option Sorted) (command : SeqCommand)
+turns_next : (name : OptionName) (turns : Option Text) (value : Text) (plain : List Text) (rest : Option SortedWords) (command : SeqCommand)
     → command_with turns plain (option_map (with_option (name, value)) rest) ≡ Some command
     → (name ≡ Turns) × (turns ≡ None) × (command_with (Some value) plain rest ≡ Some command)
 turns_next name turns value plain None command e = cc
@@ -106,14 +106,14 @@ turns_next Turns None value plain (Some sorted) command e = (refl, refl, e)
 turns_next name (Some t) value plain (Some sorted) command e = cc
 
 turns_wait : (name : OptionName) (turns : Option Text) (plain : List Text) (rest : List Text) (command : SeqCommand)
-    → command_after (Some name) (turns_given turns) plain rest ≡ Some command → (name ≡ Turns) × (turns ≡ None)
+    → command_after (Some name) (turns_options turns) plain rest ≡ Some command → (name ≡ Turns) × (turns ≡ None)
 turns_wait name turns plain [] command e = cc
 turns_wait name turns plain (value ∷ rest) command e = go (is_name value) e
   where
-    go : (b : Bool) → command_with turns plain (cond b (option_map (with_option (name, value)) (sorted_behind rest None)) None) ≡ Some command
+    go : (b : Bool) → command_with turns plain (cond b (option_map (with_option (name, value)) (sorted_words_after rest None)) None) ≡ Some command
         → (name ≡ Turns) × (turns ≡ None)
     go true e =
-        let n = turns_next name turns value plain (sorted_behind rest None) command e in
+        let n = turns_next name turns value plain (sorted_words_after rest None) command e in
         (n.0, n.1)
     go false e = cc
 
@@ -129,44 +129,44 @@ turns_word word e = go (bytes_eq word (option_word Workers)) (bytes_eq word (opt
     go false false false true is e = (bytes_eq-Decides word (option_word Turns)).0 is
     go false false false false is e = cc
 
-abbrev given : OptionName → Option Text → Option Given
+abbrev given : OptionName → Option Text → Option GivenOption
 given name = option_map (λ value. (name, value))
 
 same_given : (name : OptionName) (x value : Text) → given name (Some x) ≡ given Turns (Some value) → (name ≡ Turns) × (x ≡ value)
 same_given name x value e =
-    let pair : ◌≡◌ {A = Given} (name, x) (Turns, value) = cc in
-    (ap (λ (g : Given). g.0) pair, ap (λ (g : Given). g.1) pair)
+    let pair : ◌≡◌ {A = GivenOption} (name, x) (Turns, value) = cc in
+    (ap (λ (g : GivenOption). g.0) pair, ap (λ (g : GivenOption). g.1) pair)
 
-given_turns : (a b d t : Option Text) (value : Text)
+options_turns : (a b d t : Option Text) (value : Text)
     → option_or (given Workers a) (option_or (given Ranks b) (option_or (given Parts d) (given Turns t))) ≡ given Turns (Some value) → t ≡ Some value
-given_turns (Some x) b d t value e = cc ((same_given Workers x value e).0)
-given_turns None (Some x) d t value e = cc ((same_given Ranks x value e).0)
-given_turns None None (Some x) t value e = cc ((same_given Parts x value e).0)
-given_turns None None None (Some x) value e = ap Some (same_given Turns x value e).1
-given_turns None None None None value e = cc
+options_turns (Some x) b d t value e = cc ((same_given Workers x value e).0)
+options_turns None (Some x) d t value e = cc ((same_given Ranks x value e).0)
+options_turns None None (Some x) t value e = cc ((same_given Parts x value e).0)
+options_turns None None None (Some x) value e = ap Some (same_given Turns x value e).1
+options_turns None None None None value e = cc
 
-filled : (o : Option Text) (value : Text) → option_and_then not_empty o ≡ Some value → o ≡ Some value
+filled : (o : Option Text) (value : Text) → option_and_then nonempty_value o ≡ Some value → o ≡ Some value
 filled None value e = cc
 filled (Some []) value e = cc
 filled (Some (b ∷ bytes)) value e = e
 
-joined_word : (word value : Text) → given_by word ≡ Some (Turns, value) → word ≡ codes "--turns=" ++ value
+joined_word : (word value : Text) → option_with_value word ≡ Some (Turns, value) → word ≡ codes "--turns=" ++ value
 joined_word word value e =
-    let o : OptionName → Option Text = λ name. option_and_then not_empty (after (option_word name ++ codes "=") word) in
-    after_takes (codes "--turns=") word value (filled (after (codes "--turns=") word) value (given_turns (o Workers) (o Ranks) (o Parts) (o Turns) value e))
+    let o : OptionName → Option Text = λ name. option_and_then nonempty_value (after_prefix (option_word name ++ codes "=") word) in
+    after_prefix_splits (codes "--turns=") word value (filled (after_prefix (codes "--turns=") word) value (options_turns (o Workers) (o Ranks) (o Parts) (o Turns) value e))
 
 -- five plain words are too many
-too_many : (a b d e f : Text) (plain : List Text) (turns : Option Text) (rest : Option Sorted) (command : SeqCommand)
+too_many : (a b d e f : Text) (plain : List Text) (turns : Option Text) (rest : Option SortedWords) (command : SeqCommand)
     → command_with turns (a ∷ b ∷ d ∷ e ∷ f ∷ plain) rest ≡ Some command → ⊥
 too_many a b d e f plain turns None command is = cc
 too_many a b d e f plain turns (Some sorted) command is =
-    let none = no_command (a ∷ b ∷ d ∷ e ∷ f ∷ plain ++ sorted.plain) (turns_in (turns_given turns ++ sorted.options)) (λ four. absurd (omega arith)) in
+    let none = no_command (a ∷ b ∷ d ∷ e ∷ f ∷ plain ++ sorted.plain) (turns_in (turns_options turns ++ sorted.options)) (λ four. absurd (omega arith)) in
     let bad : None ≡ Some command = sym none ∙ is in
     cc
 
 module _ (s : Shape) (fits : Fits s) (command : SeqCommand) where
   takes_option : (word : Text) (rest : List Text) (name : OptionName) (turns : Option Text) (plain : List Text) (h : Held) → Takes s command rest
-      → Good s turns plain h → option_of word ≡ Some name → command_after (Some name) (turns_given turns) plain rest ≡ Some command
+      → Good s turns plain h → option_of word ≡ Some name → command_after (Some name) (turns_options turns) plain rest ≡ Some command
       → Reads s (between h (suc (length plain))) (word ∷ rest) command
   takes_option word rest name turns plain h more good is e =
       let only = turns_wait name turns plain rest command e in
@@ -179,30 +179,30 @@ module _ (s : Shape) (fits : Fits s) (command : SeqCommand) where
       (more (Some name) turns plain now (record { pending = refl; values = good.values; holds = good.holds; are = are }) e))
 
   takes_value : (word : Text) (rest : List Text) (name : OptionName) (turns : Option Text) (plain : List Text) (h : Held) → Takes s command rest
-      → Waits plain h → command_after (Some name) (turns_given turns) plain (word ∷ rest) ≡ Some command
+      → Waits plain h → command_after (Some name) (turns_options turns) plain (word ∷ rest) ≡ Some command
       → Reads s (behind (codes "turns") h (suc (length plain))) (word ∷ rest) command
-  takes_value word rest name turns plain h more waits e = go (is_name word) refl e
+  takes_value word rest name turns plain h more pending_option e = go (is_name word) refl e
     where
       go : (b : Bool) → is_name word ≡ b
-          → command_with turns plain (cond b (option_map (with_option (name, word)) (sorted_behind rest None)) None) ≡ Some command
+          → command_with turns plain (cond b (option_map (with_option (name, word)) (sorted_words_after rest None)) None) ≡ Some command
           → Reads s (behind (codes "turns") h (suc (length plain))) (word ∷ rest) command
       go false is e = cc
       go true is e =
           let position = suc (length plain) in
           let now : Held = record { rows = h.rows; pending = Some (codes "turns", word ∷ []); skip = h.skip } in
-          let are = waits.are in
-          let good = good_pending s (codes "turns") word (Some (codes "turns")) None (Some word) plain h.rows h.skip waits.values fits.turns_id are.0 waits.holds
+          let are = pending_option.are in
+          let good = good_pending s (codes "turns") word (Some (codes "turns")) None (Some word) plain h.rows h.skip pending_option.values fits.turns_id are.0 pending_option.holds
           (refl, are.1, are.2, are.3, are.4) in
           next s (behind (codes "turns") h position) (between now position) word rest command (value_passes s word position h is)
-          (value_step s.rules word position h fits.turns_id is waits.pending)
-          (more None (Some word) plain now good (turns_next name turns word plain (sorted_behind rest None) command e).2)
+          (value_step s.rules word position h fits.turns_id is pending_option.pending)
+          (more None (Some word) plain now good (turns_next name turns word plain (sorted_words_after rest None) command e).2)
 
   takes_joined : (word value : Text) (rest : List Text) (name : OptionName) (turns : Option Text) (plain : List Text) (h : Held) → Takes s command rest
-      → Good s turns plain h → given_by word ≡ Some (name, value)
-      → command_with turns plain (option_map (with_option (name, value)) (sorted_behind rest None)) ≡ Some command
+      → Good s turns plain h → option_with_value word ≡ Some (name, value)
+      → command_with turns plain (option_map (with_option (name, value)) (sorted_words_after rest None)) ≡ Some command
       → Reads s (between h (suc (length plain))) (word ∷ rest) command
   takes_joined word value rest name turns plain h more good is e =
-      let only = turns_next name turns value plain (sorted_behind rest None) command e in
+      let only = turns_next name turns value plain (sorted_words_after rest None) command e in
       let position = suc (length plain) in
       let rows = settled_rows s.rules h.pending h.rows in
       let are = good.are in
@@ -211,7 +211,7 @@ module _ (s : Shape) (fits : Fits s) (command : SeqCommand) where
       let now = with_used s.rules turns_value value h in
       let good' : Good s (Some value) plain now = record {
         settles = refl;
-        values = put (codes "turns") value good.values;
+        values = value_put (codes "turns") value good.values;
         holds = rw (used_once (codes "turns") value (Some (codes "turns")) None rows free) (holds_more (codes "turns") value good.values rows none good.holds);
         are = (refl, are.1, are.2, are.3, are.4);
       } in
@@ -222,8 +222,8 @@ module _ (s : Shape) (fits : Fits s) (command : SeqCommand) where
 
   -- a plain word at its place
   placed : (id word : Text) (rest : List Text) (position : ℕ) (turns : Option Text) (before plain : List Text) (h : Held) → Takes s command rest
-      → Serves s position id → is_name word ≡ true → (good : Good s turns before h) → good.values id ≡ None → Are turns plain (put id word good.values)
-      → min (position + 1) usize_max ≡ suc (length plain) → command_after None (turns_given turns) plain rest ≡ Some command
+      → Serves s position id → is_name word ≡ true → (good : Good s turns before h) → good.values id ≡ None → Are turns plain (value_put id word good.values)
+      → min (position + 1) usize_max ≡ suc (length plain) → command_after None (turns_options turns) plain rest ≡ Some command
       → Reads s (between h position) (word ∷ rest) command
   placed id word rest position turns before plain h more serves name good none are follows e =
       let now = with_pending s.rules id (word ∷ []) h in
@@ -232,7 +232,7 @@ module _ (s : Shape) (fits : Fits s) (command : SeqCommand) where
       (plain_step s.rules id word position h serves.0 name ∙ ap (between now) follows) (more None turns plain now good' e)
 
   takes_plain : (word : Text) (rest : List Text) (turns : Option Text) (plain : List Text) (h : Held) → Takes s command rest → Good s turns plain h
-      → is_name word ≡ true → command_after None (turns_given turns) (plain ++ word ∷ []) rest ≡ Some command
+      → is_name word ≡ true → command_after None (turns_options turns) (plain ++ word ∷ []) rest ≡ Some command
       → Reads s (between h (suc (length plain))) (word ∷ rest) command
   takes_plain word rest turns [] h more good name e =
       let are = good.are in
@@ -246,27 +246,27 @@ module _ (s : Shape) (fits : Fits s) (command : SeqCommand) where
   takes_plain word rest turns (a ∷ b ∷ d ∷ []) h more good name e =
       let are = good.are in
       placed (codes "ele") word rest 4 turns (a ∷ b ∷ d ∷ []) (a ∷ b ∷ d ∷ word ∷ []) h more fits.ele name good are.4 (are.0, are.1, are.2, are.3, refl) refl e
-  takes_plain word rest turns (a ∷ b ∷ d ∷ f ∷ []) h more good name e = absurd (too_many a b d f word [] turns (sorted_behind rest None) command e)
+  takes_plain word rest turns (a ∷ b ∷ d ∷ f ∷ []) h more good name e = absurd (too_many a b d f word [] turns (sorted_words_after rest None) command e)
   takes_plain word rest turns (a ∷ b ∷ d ∷ f ∷ g ∷ plain) h more good name e =
-      absurd (too_many a b d f g (plain ++ word ∷ []) turns (sorted_behind rest None) command e)
+      absurd (too_many a b d f g (plain ++ word ∷ []) turns (sorted_words_after rest None) command e)
 
-  takes_word : (word : Text) (rest : List Text) (turns : Option Text) (plain : List Text) (h : Held) (o : Option OptionName) (g : Option Given)
-      → Takes s command rest → Good s turns plain h → option_of word ≡ o → given_by word ≡ g
-      → command_with turns plain (sorted_by o g word (sorted_behind rest)) ≡ Some command
+  takes_word : (word : Text) (rest : List Text) (turns : Option Text) (plain : List Text) (h : Held) (o : Option OptionName) (g : Option GivenOption)
+      → Takes s command rest → Good s turns plain h → option_of word ≡ o → option_with_value word ≡ g
+      → command_with turns plain (sorted_words_with o g word (sorted_words_after rest)) ≡ Some command
       → Reads s (between h (suc (length plain))) (word ∷ rest) command
   takes_word word rest turns plain h (Some name) g more good is given e = takes_option word rest name turns plain h more good is e
   takes_word word rest turns plain h None (Some g) more good is given e = takes_joined word g.1 rest g.0 turns plain h more good given e
   takes_word word rest turns plain h None None more good is given e = go (is_name word) refl e
     where
-      go : (b : Bool) → is_name word ≡ b → command_with turns plain (cond b (option_map (with_plain word) (sorted_behind rest None)) None) ≡ Some command
+      go : (b : Bool) → is_name word ≡ b → command_with turns plain (cond b (option_map (with_plain word) (sorted_words_after rest None)) None) ≡ Some command
           → Reads s (between h (suc (length plain))) (word ∷ rest) command
       go false name e = cc
       go true name e =
-          takes_plain word rest turns plain h more good name (sym (plain_next (turns_given turns) plain word None None (sorted_behind rest) refl refl name) ∙ rw name e)
+          takes_plain word rest turns plain h more good name (sym (plain_next (turns_options turns) plain word None None (sorted_words_after rest) refl refl name) ∙ rw name e)
 
   pub takes_words : (words : List Text) → Takes s command words
   unfolding walk_passes
-  takes_words [] None turns plain h good e = record { passes = refl; ends = record { turns = turns; plain = plain; good = good; names = e } }
-  takes_words [] (Some name) turns plain h waits e = cc
-  takes_words (word ∷ rest) None turns plain h good e = takes_word word rest turns plain h (option_of word) (given_by word) (takes_words rest) good refl refl e
-  takes_words (word ∷ rest) (Some name) turns plain h waits e = takes_value word rest name turns plain h (takes_words rest) waits e
+  takes_words [] None turns plain h good e = record { passes = refl; ends = record { turns = turns; plain = plain; good = good; remaining_command = e } }
+  takes_words [] (Some name) turns plain h pending_option e = cc
+  takes_words (word ∷ rest) None turns plain h good e = takes_word word rest turns plain h (option_of word) (option_with_value word) (takes_words rest) good refl refl e
+  takes_words (word ∷ rest) (Some name) turns plain h pending_option e = takes_value word rest name turns plain h (takes_words rest) pending_option e

@@ -5,72 +5,73 @@ use Rattle.std.specs.Char.{is_ascii_digit}
 use Rattle.std.specs.Option.{option_map, option_and_then, option_or}
 use Rattle.std.specs.Str.{bytes_eq}
 use Rattle.std.specs.Str.Parse.{digits_value}
+use Rattle.liszt_base.specs.Limits.{turn_limit, default_turns}
 use Rattle.command_words.specs.declared.command.Command.{Command}
 use Rattle.command_words.specs.declared.options.OptionName.{OptionName}
 use Rattle.command_words.specs.declared.options.OptionName.TheVariants.{Workers, Ranks, Parts, Turns}
 
--- OPTIONS, each given with a value
+-- OPTIONS, each with a value
 abbrev pub option_word : OptionName → List ℕ
 option_word Workers = codes "--workers"
 option_word Ranks = codes "--ranks"
 option_word Parts = codes "--parts"
 option_word Turns = codes "--turns"
 
-abbrev pub Given : Type 0
-Given = OptionName × List ℕ
+abbrev pub GivenOption : Type 0
+GivenOption = OptionName × List ℕ
 
--- what follows the front of a word, where it begins so
-abbrev pub after : List ℕ → List ℕ → Option (List ℕ)
-after [] word = Some word
-after (b ∷ front) [] = None
-after (b ∷ front) (c ∷ word) = if c == b then after front word else None
+-- The rest of a word after a prefix, if the word starts with the prefix.
+abbrev pub after_prefix : List ℕ → List ℕ → Option (List ℕ)
+after_prefix [] word = Some word
+after_prefix (b ∷ front) [] = None
+after_prefix (b ∷ front) (c ∷ word) = if c == b then after_prefix front word else None
 
--- the option that the word is
+-- The option that the word is.
 abbrev pub option_of : List ℕ → Option OptionName
 option_of word = find (λ name. bytes_eq word (option_word name)) (Workers ∷ Ranks ∷ Parts ∷ Turns ∷ [])
 
--- the option that the word gives, `--NAME=VALUE` with a value that isn't empty
-abbrev pub not_empty : List ℕ → Option (List ℕ)
-not_empty [] = None
-not_empty (b ∷ bytes) = Some (b ∷ bytes)
+-- The option and the value of a word `--NAME=VALUE`, where the value is not empty.
+abbrev pub nonempty_value : List ℕ → Option (List ℕ)
+nonempty_value [] = None
+nonempty_value (b ∷ bytes) = Some (b ∷ bytes)
 
-abbrev pub gives : OptionName → List ℕ → Option Given
-gives name word = option_map (λ value. (name, value)) (option_and_then not_empty (after (option_word name ++ codes "=") word))
+abbrev pub given_option : OptionName → List ℕ → Option GivenOption
+given_option name word = option_map (λ value. (name, value)) (option_and_then nonempty_value (after_prefix (option_word name ++ codes "=") word))
 
-abbrev pub given_by : List ℕ → Option Given
-given_by word = option_or (gives Workers word) (option_or (gives Ranks word) (option_or (gives Parts word) (gives Turns word)))
+abbrev pub option_with_value : List ℕ → Option GivenOption
+option_with_value word = option_or (given_option Workers word) (option_or (given_option Ranks word) (option_or (given_option Parts word) (given_option Turns word)))
 
--- the word isn't empty and doesn't begin with `-`
+-- The word is not empty and does not start with `-`.
 abbrev pub is_name : List ℕ → Bool
 is_name [] = false
 is_name (b ∷ bytes) = not (b == 45)
 
--- WORDS are options with their values, and plain words, in their order. A word that is an option takes the next word as its value.
-pub record Sorted : Type 0 where
-  pub options : List Given
+-- WORDS are options with their values, and plain words, in their order. The value of a word that is an option is the next word.
+pub record SortedWords : Type 0 where
+  pub options : List GivenOption
   pub plain : List (List ℕ)
 
-abbrev pub with_option : Given → Sorted → Sorted
-with_option given sorted = record { options = given ∷ sorted.options; plain = sorted.plain }
+abbrev pub with_option : GivenOption → SortedWords → SortedWords
+with_option option sorted = record { options = option ∷ sorted.options; plain = sorted.plain }
 
-abbrev pub with_plain : List ℕ → Sorted → Sorted
+abbrev pub with_plain : List ℕ → SortedWords → SortedWords
 with_plain word sorted = record { options = sorted.options; plain = word ∷ sorted.plain }
 
--- by what the word is: an option, a given option, or else a plain word or no word of a command
-abbrev pub sorted_by : Option OptionName → Option Given → List ℕ → (Option OptionName → Option Sorted) → Option Sorted
-sorted_by (Some name) given word rest = rest (Some name)
-sorted_by None (Some given) word rest = option_map (with_option given) (rest None)
-sorted_by None None word rest = if is_name word then option_map (with_plain word) (rest None) else None
+-- The words with a first word that is an option, an option with a value, a plain word, or no word of a command.
+abbrev pub sorted_words_with : Option OptionName → Option GivenOption → List ℕ → (Option OptionName → Option SortedWords) → Option SortedWords
+sorted_words_with (Some name) given word rest = rest (Some name)
+sorted_words_with None (Some given) word rest = option_map (with_option given) (rest None)
+sorted_words_with None None word rest = if is_name word then option_map (with_plain word) (rest None) else None
 
--- the words behind an option that waits for its value, or behind none
-abbrev pub sorted_behind : List (List ℕ) → Option OptionName → Option Sorted
-sorted_behind [] None = Some (record { options = []; plain = [] })
-sorted_behind [] (Some name) = None
-sorted_behind (value ∷ words) (Some name) =
-    if is_name value then option_map (with_option (name, value)) (sorted_behind words None) else None
-sorted_behind (word ∷ words) None = sorted_by (option_of word) (given_by word) word (sorted_behind words)
+-- The words after an option whose value is the next word, or after none.
+abbrev pub sorted_words_after : List (List ℕ) → Option OptionName → Option SortedWords
+sorted_words_after [] None = Some (record { options = []; plain = [] })
+sorted_words_after [] (Some name) = None
+sorted_words_after (value ∷ words) (Some name) =
+    if is_name value then option_map (with_option (name, value)) (sorted_words_after words None) else None
+sorted_words_after (word ∷ words) None = sorted_words_with (option_of word) (option_with_value word) word (sorted_words_after words)
 
--- NUMBERS: 1 to 10 digits, of a value within bounds
+-- NUMBERS: 1 to 10 digits, with a value within bounds
 abbrev pub number_in : ℕ → ℕ → List ℕ → Option ℕ
 number_in least most word =
     if nat_le 1 (length word) && nat_le (length word) 10 && list_all is_ascii_digit word && nat_le least (digits_value 10 word)
@@ -78,20 +79,20 @@ number_in least most word =
     then Some (digits_value 10 word)
     else None
 
--- COMMANDS. So far there is `seq PROGRAM NODE ELE`, with the option `--turns` once at most.
+-- COMMANDS. There is `seq PROGRAM NODE ELE`, with the option `--turns` at most once.
 pub record SeqCommand : Type 0 where
   pub program : List ℕ
   pub node : List ℕ
   pub ele : List ℕ
   pub turns : ℕ
 
--- what a command of the code says
-abbrev pub named_by : Command → SeqCommand
-named_by c = record { program = c.program.now; node = c.node.now; ele = c.ele.now; turns = c.turns }
+-- The command of the code as one of the definitions.
+abbrev pub seq_command : Command → SeqCommand
+seq_command c = record { program = c.program.now; node = c.node.now; ele = c.ele.now; turns = c.turns }
 
-abbrev pub turns_in : List Given → Option ℕ
-turns_in [] = Some 1000000
-turns_in ((Turns, value) ∷ []) = number_in 1 1000000000 value
+abbrev pub turns_in : List GivenOption → Option ℕ
+turns_in [] = Some default_turns
+turns_in ((Turns, value) ∷ []) = number_in 1 turn_limit value
 turns_in options = None
 
 abbrev pub seq_in : List (List ℕ) → ℕ → Option SeqCommand
@@ -99,9 +100,9 @@ seq_in (mode ∷ program ∷ node ∷ ele ∷ []) turns =
     if bytes_eq mode (codes "seq") then Some (record { program = program; node = node; ele = ele; turns = turns }) else None
 seq_in plain turns = None
 
-abbrev pub command_in : Sorted → Option SeqCommand
+abbrev pub command_in : SortedWords → Option SeqCommand
 command_in sorted = option_and_then (seq_in sorted.plain) (turns_in sorted.options)
 
--- the command that the words name
+-- The command that the words name.
 abbrev pub command_of : List (List ℕ) → Option SeqCommand
-command_of words = option_and_then command_in (sorted_behind words None)
+command_of words = option_and_then command_in (sorted_words_after words None)

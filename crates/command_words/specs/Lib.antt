@@ -1,3 +1,2 @@
 pub mod Commands
-pub mod CommandReading
-pub mod Matched
+pub mod Internal

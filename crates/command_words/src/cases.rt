@@ -1,21 +1,30 @@
-//! Worked cases of the command line, which the checker computes. Each function does nothing; its contract is the case.
+//! Worked cases of the command line, computed by the checker. Each is the contract of a function with an empty body.
 #![allow(dead_code)]
 
 ghost use Rattle.std.specs.Prelude.{◌≡◌, [], ◌∷◌, Some, None, codes};
+ghost use Rattle.liszt_base.specs.Limits.{default_turns};
 ghost use Rattle.command_words.specs.Commands.{command_of};
 
-/// Options stand anywhere, their values as a word of their own or behind `=`.
+/// Options are allowed anywhere, with the value as the next word or after `=`.
 fn options()
-    ensures none { command_of (codes "seq" ∷ codes "p" ∷ codes "n" ∷ codes "e" ∷ []) ≡ Some (record { program = codes "p"; node = codes "n"; ele = codes "e"; turns = 1000000 }) }
-    ensures before { command_of (codes "--turns" ∷ codes "0005" ∷ codes "seq" ∷ codes "p" ∷ codes "n" ∷ codes "e" ∷ []) ≡ Some (record { program = codes "p"; node = codes "n"; ele = codes "e"; turns = 5 }) }
-    ensures joined { command_of (codes "seq" ∷ codes "p" ∷ codes "--turns=7" ∷ codes "n" ∷ codes "e" ∷ []) ≡ Some (record { program = codes "p"; node = codes "n"; ele = codes "e"; turns = 7 }) }
+    ensures none { command_of (codes "seq" ∷ codes "p" ∷ codes "n" ∷ codes "e" ∷ [])
+        ≡ Some (record { program = codes "p"; node = codes "n"; ele = codes "e"; turns = default_turns }) }
+    ensures before { command_of (codes "--turns" ∷ codes "0005" ∷ codes "seq" ∷ codes "p"
+        ∷ codes "n" ∷ codes "e" ∷ [])
+        ≡ Some (record { program = codes "p"; node = codes "n"; ele = codes "e"; turns = 5 }) }
+    ensures joined { command_of (codes "seq" ∷ codes "p" ∷ codes "--turns=7" ∷ codes "n" ∷ codes "e"
+        ∷ []) ≡ Some (record { program = codes "p"; node = codes "n"; ele = codes "e"; turns = 7 }) }
 {}
 
-/// What is no command: an option without its value, one given twice, one of another command, a number out of range.
+/// Words that are no command: an option without a value, a repeated option, an option of no command, a number out of range.
 fn no_commands()
     ensures no_words { command_of [] ≡ None }
-    ensures no_value { command_of (codes "seq" ∷ codes "p" ∷ codes "n" ∷ codes "e" ∷ codes "--turns" ∷ []) ≡ None }
-    ensures twice { command_of (codes "seq" ∷ codes "--turns=1" ∷ codes "--turns=1" ∷ codes "p" ∷ codes "n" ∷ codes "e" ∷ []) ≡ None }
-    ensures other { command_of (codes "seq" ∷ codes "p" ∷ codes "n" ∷ codes "e" ∷ codes "--workers" ∷ codes "4" ∷ []) ≡ None }
-    ensures zero { command_of (codes "seq" ∷ codes "p" ∷ codes "n" ∷ codes "e" ∷ codes "--turns" ∷ codes "0" ∷ []) ≡ None }
+    ensures no_value { command_of (codes "seq" ∷ codes "p" ∷ codes "n" ∷ codes "e" ∷ codes "--turns"
+        ∷ []) ≡ None }
+    ensures twice { command_of (codes "seq" ∷ codes "--turns=1" ∷ codes "--turns=1" ∷ codes "p"
+        ∷ codes "n" ∷ codes "e" ∷ []) ≡ None }
+    ensures other { command_of (codes "seq" ∷ codes "p" ∷ codes "n" ∷ codes "e" ∷ codes "--workers"
+        ∷ codes "4" ∷ []) ≡ None }
+    ensures zero { command_of (codes "seq" ∷ codes "p" ∷ codes "n" ∷ codes "e" ∷ codes "--turns"
+        ∷ codes "0" ∷ []) ≡ None }
 {}

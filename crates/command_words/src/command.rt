@@ -1,22 +1,17 @@
 ghost use Rattle.std.specs.Prelude.{◌≡◌, ◌∷◌, ◌++◌, [], ℕ, List, None, Ok, IfOk};
 ghost use Rattle.std.specs.Option.{option_map, option_and_then};
 ghost use Rattle.clap.specs.Words.{found_of};
-ghost use Rattle.command_words.specs.Commands.{command_of, named_by, turns_in};
-ghost use Rattle.command_words.specs.CommandReading.{command_after, given_so_far, plain_so_far, names};
-ghost use Rattle.command_words.specs.Matched.{command_found};
+ghost use Rattle.command_words.specs.Commands.{command_of, seq_command, turns_in};
+ghost use Rattle.command_words.specs.Internal.CommandReading.{command_after, options_so_far, plain_so_far, remaining_command};
+ghost use Rattle.command_words.specs.Internal.Matches.{matched_command};
 
 use crate::matched::matches_of;
-use crate::options::{OptionName, given_by, is_name, number_in, option_of};
+use crate::options::{OptionName, is_name, number_in, option_of, option_with_value};
 use clap::ArgMatches;
-use liszt_base::{NoMemory, WordList};
+use liszt_base::{DEFAULT_TURNS, NoMemory, TURN_LIMIT, WordList};
 use std::alloc::Global;
 
-/// The turns of a command that doesn't say them, and the most that it may say.
-const TURNS: u64 = 1_000_000;
-
-const MOST_TURNS: u64 = 1_000_000_000;
-
-/// `seq PROGRAM NODE ELE`: the names of the three files, and the most turns of a loop.
+/// `seq PROGRAM NODE ELE`: the names of the three files, and the greatest number of turns of a loop.
 #[derive(Clone, Copy, Debug)]
 pub struct Command<'a> {
     pub program: &'a str,
@@ -25,35 +20,36 @@ pub struct Command<'a> {
     pub turns: u64,
 }
 
-/// The words taken so far: the option that waits for its value, the value of `--turns`, and the plain words, four at most.
+/// The words read so far: the option whose value is the next word, the value of `--turns`, and at most four plain words.
 #[derive(Clone, Copy)]
-struct Taken<'a> {
-    waits: Option<OptionName>,
+struct WordsRead<'a> {
+    pending_option: Option<OptionName>,
     turns: Option<&'a [u8]>,
     plain: [&'a str; 4],
     count: usize,
 }
 
-/// The command that the words name, if they name one: whether they do is tested here, and what they name is read by clap.
+/// The command that the words name, if they name one. Whether they do is tested here; the command is then read by clap.
 pub fn command_of(alloc: Global, words: &WordList) -> Result<Option<Command<'_>>, NoMemory>
-    ensures command { IfOk result (λ command. option_map named_by command ≡ command_of words.now) }
+    ensures command { IfOk result (λ command. option_map seq_command command
+        ≡ command_of words.now) }
     ensures none { command_of words.now ≡ None → result ≡ Ok None }
 {
-    let Some(_) = tested(words) else {
+    let Some(_) = tested_command(words) else {
         return Ok(None);
     };
     let Ok(matches) = matches_of(alloc, words) else {
         return Err(NoMemory);
     };
-    let Some(command) = command_found(&matches) else {
+    let Some(command) = matched_command(&matches) else {
         unreachable!()
     };
     Ok(Some(command))
 }
 
-/// The command that clap found.
-fn command_found<'a>(matches: &ArgMatches<'a>) -> Option<Command<'a>>
-    ensures { option_map named_by result ≡ command_found (found_of matches.now) }
+/// The command with the values that clap found.
+fn matched_command<'a>(matches: &ArgMatches<'a>) -> Option<Command<'a>>
+    ensures { option_map seq_command result ≡ matched_command (found_of matches.now) }
 {
     let mode = matches.get_str("mode")?;
     let program = matches.get_str("program")?;
@@ -63,8 +59,8 @@ fn command_found<'a>(matches: &ArgMatches<'a>) -> Option<Command<'a>>
         Some(value) => Some(value.as_bytes()),
         None => None,
     };
-    let found = Taken {
-        waits: None,
+    let found = WordsRead {
+        pending_option: None,
         turns,
         plain: [mode, program, node, ele],
         count: 4,
@@ -72,47 +68,49 @@ fn command_found<'a>(matches: &ArgMatches<'a>) -> Option<Command<'a>>
     found.command()
 }
 
-/// The command that the words name, if they name one, by a test of each word.
-fn tested(words: &WordList) -> Option<Command<'_>>
-    ensures { option_map named_by result ≡ command_of words.now }
+/// The command that the words name, if they name one, computed word by word.
+fn tested_command(words: &WordList) -> Option<Command<'_>>
+    ensures { option_map seq_command result ≡ command_of words.now }
 {
-    let mut taken = Taken {
-        waits: None,
+    let mut words_read = WordsRead {
+        pending_option: None,
         turns: None,
         plain: [""; 4],
         count: 0,
     };
     for word in words.as_slice() {
-        taken = taken.with(word.as_str())?;
+        words_read = words_read.with(word.as_str())?;
     }
-    taken.command()
+    words_read.command()
 }
 
-impl<'a> Taken<'a> {
-    /// One word more, or `None` where no command has such words.
-    fn with(self, word: &'a str) -> Option<Taken<'a>>
-        ensures { (rest : List (List ℕ)) → names self.entry (word.now ∷ rest) ≡ option_and_then (λ t. names t rest) result }
+impl<'a> WordsRead<'a> {
+    /// The state after one more word, or `None` where no command starts with these words.
+    fn with(self, word: &'a str) -> Option<WordsRead<'a>>
+        ensures { (rest : List (List ℕ)) → remaining_command self.entry (word.now ∷ rest)
+            ≡ option_and_then (λ t. remaining_command t rest) result }
     {
         let bytes = word.as_bytes();
-        match self.waits {
+        match self.pending_option {
             Some(name) if is_name(bytes) => self.with_option(name, bytes),
             Some(_) => None,
             None => self.with_next(word),
         }
     }
 
-    /// A word that is no option's value.
-    fn with_next(self, word: &'a str) -> Option<Taken<'a>>
-        ensures { (rest : List (List ℕ)) → command_after None (given_so_far self.entry) (plain_so_far self.entry) (word.now ∷ rest)
-            ≡ option_and_then (λ t. names t rest) result }
+    /// The state after a word that is not the value of an option.
+    fn with_next(self, word: &'a str) -> Option<WordsRead<'a>>
+        ensures { (rest : List (List ℕ)) → command_after None (options_so_far self.entry)
+            (plain_so_far self.entry) (word.now ∷ rest)
+            ≡ option_and_then (λ t. remaining_command t rest) result }
     {
         let bytes = word.as_bytes();
         if let Some(name) = option_of(bytes) {
-            Some(Taken {
-                waits: Some(name),
+            Some(WordsRead {
+                pending_option: Some(name),
                 ..self
             })
-        } else if let Some((name, value)) = given_by(bytes) {
+        } else if let Some((name, value)) = option_with_value(bytes) {
             self.with_option(name, value)
         } else if is_name(bytes) {
             self.with_plain(word)
@@ -121,14 +119,15 @@ impl<'a> Taken<'a> {
         }
     }
 
-    /// An option and its value: `--turns`, once, is all that a command has.
-    fn with_option(self, name: OptionName, value: &'a [u8]) -> Option<Taken<'a>>
-        ensures { (rest : List (List ℕ)) → command_after None (given_so_far self.entry ++ (name, value.now) ∷ []) (plain_so_far self.entry) rest
-            ≡ option_and_then (λ t. names t rest) result }
+    /// The state after an option and its value. A command has only `--turns`, at most once.
+    fn with_option(self, name: OptionName, value: &'a [u8]) -> Option<WordsRead<'a>>
+        ensures { (rest : List (List ℕ)) → command_after None
+            (options_so_far self.entry ++ (name, value.now) ∷ []) (plain_so_far self.entry) rest
+            ≡ option_and_then (λ t. remaining_command t rest) result }
     {
         match (name, self.turns) {
-            (OptionName::Turns, None) => Some(Taken {
-                waits: None,
+            (OptionName::Turns, None) => Some(WordsRead {
+                pending_option: None,
                 turns: Some(value),
                 ..self
             }),
@@ -136,29 +135,30 @@ impl<'a> Taken<'a> {
         }
     }
 
-    /// A plain word: four are all that a command has.
-    fn with_plain(self, word: &'a str) -> Option<Taken<'a>>
-        ensures { (rest : List (List ℕ)) → command_after None (given_so_far self.entry) (plain_so_far self.entry ++ word.now ∷ []) rest
-            ≡ option_and_then (λ t. names t rest) result }
+    /// The state after a plain word. A command has at most four.
+    fn with_plain(self, word: &'a str) -> Option<WordsRead<'a>>
+        ensures { (rest : List (List ℕ)) → command_after None (options_so_far self.entry)
+            (plain_so_far self.entry ++ word.now ∷ []) rest
+            ≡ option_and_then (λ t. remaining_command t rest) result }
     {
         if self.count >= self.plain.len() {
             return None;
         }
         let mut plain = self.plain;
         plain[self.count] = word;
-        Some(Taken {
-            waits: None,
+        Some(WordsRead {
+            pending_option: None,
             plain,
             count: self.count + 1,
             ..self
         })
     }
 
-    /// The command that the words name if no more follow.
+    /// The command that the words name if no more words follow.
     fn command(self) -> Option<Command<'a>>
-        ensures { option_map named_by result ≡ names self.entry [] }
+        ensures { option_map seq_command result ≡ remaining_command self.entry [] }
     {
-        if self.waits.is_some() || self.count < self.plain.len() {
+        if self.pending_option.is_some() || self.count < self.plain.len() {
             return None;
         }
         let turns = self.turns()?;
@@ -175,13 +175,13 @@ impl<'a> Taken<'a> {
         }
     }
 
-    /// The turns that the options say.
+    /// The number of turns that the options give, if it is within bounds.
     fn turns(self) -> Option<u64>
-        ensures { result ≡ turns_in (given_so_far self.entry) }
+        ensures { result ≡ turns_in (options_so_far self.entry) }
     {
         match self.turns {
-            Some(value) => number_in(1, MOST_TURNS, value),
-            None => Some(TURNS),
+            Some(value) => number_in(1, TURN_LIMIT, value),
+            None => Some(DEFAULT_TURNS),
         }
     }
 }

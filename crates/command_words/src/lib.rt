@@ -1,4 +1,4 @@
-//! The words of a command line: the command that they name, which the product tests word by word and clap reads.
+//! The words of a command line, and the command that they name, which is tested word by word here and read by clap.
 #![tactic(auto)]
 
 mod cases;

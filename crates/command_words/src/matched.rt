@@ -3,16 +3,18 @@ ghost use Rattle.std.specs.Prelude.{◌≡◌, IfOk, IfErr, Some};
 ghost use Rattle.clap.specs.Words.{app_of, found_of, kind_of};
 ghost use Rattle.clap.specs.declared.error.kind.ErrorKind.TheVariants.{OutOfMemory};
 ghost use Rattle.command_words.specs.Commands.{SeqCommand, command_of};
-ghost use Rattle.command_words.specs.Matched.{command_found, seq_app};
+ghost use Rattle.command_words.specs.Internal.Matches.{matched_command, seq_app};
 
 use clap::{Arg, ArgMatches, Command, Error};
 use liszt_base::WordList;
 use std::alloc::{AllocError, Global};
 
-/// What clap finds in the words. Where they are a command's, it fails for want of memory alone.
+/// The values that clap finds in the words. For the words of a command the only error is out of memory.
 pub fn matches_of(alloc: Global, words: &WordList) -> Result<ArgMatches<'_>, Error>
-    ensures found { (c : SeqCommand) → command_of words.now ≡ Some c → IfOk result (λ m. command_found (found_of m) ≡ Some c) }
-    ensures memory { (c : SeqCommand) → command_of words.now ≡ Some c → IfErr result (λ e. kind_of e ≡ OutOfMemory) }
+    ensures command { (c : SeqCommand) → command_of words.now ≡ Some c
+        → IfOk result (λ m. matched_command (found_of m) ≡ Some c) }
+    ensures out_of_memory { (c : SeqCommand) → command_of words.now ≡ Some c
+        → IfErr result (λ e. kind_of e ≡ OutOfMemory) }
 {
     let grammar = grammar(alloc)?;
     grammar.try_get_matches_from(words.as_slice())

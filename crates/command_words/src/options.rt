@@ -1,12 +1,12 @@
-//! What a word of the command line is by itself: an option, an option with its value, a name, a number.
+//! Single words of the command line: options, options with a value, names and numbers.
 ghost use Rattle.std.specs.Prelude.{◌≡◌, ◌≤◌, true, length};
 ghost use Rattle.std.specs.Char.{is_ascii_digit};
 ghost use Rattle.std.specs.List.{list_all};
 ghost use Rattle.std.specs.Option.{option_map, option_and_then};
 ghost use Rattle.std.specs.Str.Parse.{digits_value};
-ghost use Rattle.command_words.specs.Commands.{after, option_of, given_by, not_empty, is_name, number_in};
+ghost use Rattle.command_words.specs.Commands.{after_prefix, option_of, option_with_value, nonempty_value, is_name, number_in};
 
-/// The options, each given with a value.
+/// The options, each with a value.
 #[derive(Clone, Copy, Debug)]
 pub enum OptionName {
     Workers,
@@ -15,7 +15,7 @@ pub enum OptionName {
     Turns,
 }
 
-/// The most digits of a number.
+/// The greatest number of digits of a number.
 const MOST_DIGITS: usize = 10;
 
 /// The option that the word is.
@@ -35,9 +35,9 @@ pub fn option_of(word: &[u8]) -> Option<OptionName>
     }
 }
 
-/// The option that the word gives with its value, as `--turns=5` does.
-pub fn given_by(word: &[u8]) -> Option<(OptionName, &[u8])>
-    ensures { option_map (λ g. (g.0, g.1.now)) result ≡ given_by word.now }
+/// The option and the value of a word such as `--turns=5`.
+pub fn option_with_value(word: &[u8]) -> Option<(OptionName, &[u8])>
+    ensures { option_map (λ g. (g.0, g.1.now)) result ≡ option_with_value word.now }
 {
     if let Some(value) = value_after(word, b"--workers=") {
         Some((OptionName::Workers, value))
@@ -51,22 +51,23 @@ pub fn given_by(word: &[u8]) -> Option<(OptionName, &[u8])>
     }
 }
 
-/// What follows the front of a word, where it isn't empty.
+/// The rest of a word after a prefix, if the word starts with the prefix and the rest is not empty.
 fn value_after<'a>(word: &'a [u8], front: &[u8]) -> Option<&'a [u8]>
-    ensures { option_map (λ value. value.now) result ≡ option_and_then not_empty (after front.now word.now) }
+    ensures { option_map (λ value. value.now) result
+        ≡ option_and_then nonempty_value (after_prefix front.now word.now) }
 {
     let value = rest_after(word, front)?;
     if value.is_empty() { None } else { Some(value) }
 }
 
-/// What follows the front of a word, where it begins so.
+/// The rest of a word after a prefix, if the word starts with the prefix.
 fn rest_after<'a>(word: &'a [u8], front: &[u8]) -> Option<&'a [u8]>
-    ensures { option_map (λ rest. rest.now) result ≡ after front.now word.now }
+    ensures { option_map (λ rest. rest.now) result ≡ after_prefix front.now word.now }
 {
     word.strip_prefix(front)
 }
 
-/// Whether the word can name a file: it isn't empty and doesn't begin with `-`.
+/// Whether the word can name a file: it is not empty and does not start with `-`.
 pub fn is_name(word: &[u8]) -> bool
     ensures { result ≡ is_name word.now }
 {
@@ -82,7 +83,7 @@ fn all_digits(word: &[u8]) -> bool
     word.iter().all(|b| b.is_ascii_digit())
 }
 
-/// The number that 1 to 10 digits write, where it is within bounds.
+/// The number that 1 to 10 digits write, if it is within bounds.
 pub fn number_in(least: u64, most: u64, word: &[u8]) -> Option<u64>
     ensures { result ≡ number_in least most word.now }
 {

@@ -2,7 +2,7 @@ use Rattle.std.proofs.Common.{◌≡◌, ◌∙◌, ap, ap₂, codes, rules, tru
 use Rattle.std.proofs.lemmas.Result.{IfOk-weaker}
 use Rattle.clap.specs.Words.{app_of, new_rule, rule_of, with_rule}
 use Rattle.clap.specs.Simple.{app_of_fields, on_top}
-use Rattle.command_words.specs.Matched.{no_rules, turns_rule}
+use Rattle.command_words.specs.Internal.Matches.{no_rules, turns_rule}
 use Rattle.command_words.proofs.matched.grammar.Goals as goal
 
 pub returns : goal.returns

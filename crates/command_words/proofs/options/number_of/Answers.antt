@@ -3,18 +3,18 @@ use Rattle.std.specs.Char.{is_ascii_digit, digit_value}
 use Rattle.std.specs.Str.Parse.{digits_value}
 use Rattle.std.proofs.lemmas.Int.Digits.{digits_value_more}
 use Rattle.std.proofs.lemmas.List.Sums.{AllPass-from_list_all}
-use Rattle.command_words.proofs.Digits.{front_small, digit_is}
+use Rattle.command_words.proofs.DigitLemmas.{prefix_small, digit_is}
 use Rattle.command_words.proofs.options.number_of.Goals as goal
 
 pub overflow_mul-value : goal.overflow_mul-value
 overflow_mul-value c =
-    let small = front_small c.args.digits.now c.loop-b.b-index c.requires.digits c.requires.few in
+    let small = prefix_small c.args.digits.now c.loop-b.b-index c.requires.digits c.requires.few in
     let is : c.loop-b.value ≡ digits_value 10 (take c.loop-b.b-index c.args.digits.now) = c.loop-b.invariant in
     omega arith
 
 pub overflow_add-value : goal.overflow_add-value
 overflow_add-value c =
-    let small = front_small c.args.digits.now c.loop-b.b-index c.requires.digits c.requires.few in
+    let small = prefix_small c.args.digits.now c.loop-b.b-index c.requires.digits c.requires.few in
     let is : c.loop-b.value ≡ digits_value 10 (take c.loop-b.b-index c.args.digits.now) = c.loop-b.invariant in
     let byte = c.type_inv.digits c.loop-b.b-index in
     omega arith

@@ -1,9 +1,9 @@
 use Rattle.std.proofs.lemmas.Bool.Decides.{Decides-eqb}
 use Rattle.std.proofs.lemmas.Slice.Eq.{strip_prefix_is}
-use Rattle.command_words.proofs.WordFronts.{after_is}
+use Rattle.command_words.proofs.WordPrefixes.{after_prefix_is}
 use Rattle.command_words.proofs.options.rest_after.Goals as goal
 
 pub returns : goal.returns
 returns c =
-    after_is c.args.front.now c.args.word.now c.strip_prefix.result
+    after_prefix_is c.args.front.now c.args.word.now c.strip_prefix.result
     (strip_prefix_is Decides-eqb c.args.word.now c.args.front.now c.strip_prefix.result c.strip_prefix.ensures.cases)

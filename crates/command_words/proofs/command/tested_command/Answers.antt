@@ -1,22 +1,22 @@
 use Rattle.std.proofs.Common.{◌≡◌, ◌+◌, ◌∷◌, drop, map, sym, ap, ◌∙◌, None}
 use Rattle.std.specs.Option.{option_map, option_and_then}
 use Rattle.std.specs.String.{string_bytes}
-use Rattle.command_words.specs.Commands.{named_by}
-use Rattle.command_words.specs.CommandReading.{names}
-use Rattle.command_words.proofs.Words.{word_at}
-use Rattle.command_words.proofs.command.tested.Goals as goal
+use Rattle.command_words.specs.Commands.{seq_command}
+use Rattle.command_words.specs.Internal.CommandReading.{remaining_command}
+use Rattle.command_words.proofs.WordLemmas.{word_at}
+use Rattle.command_words.proofs.command.tested_command.Goals as goal
 
-pub returns-in_err-taken : goal.returns-in_err-taken
-returns-in_err-taken c =
+pub returns-in_err-words_read : goal.returns-in_err-words_read
+returns-in_err-words_read c =
     let words = map string_bytes c.as_slice-word-items.result.now in
     let rest = drop (c.loop-word.word-index + 1) words in
     let item = c.as_str.ensures.value ∙ ap string_bytes c.word-item.is in
     let at : drop c.loop-word.word-index words ≡ c.as_str.result.now ∷ rest =
     word_at string_bytes c.as_slice-word-items.result.now c.loop-word.word-index c.word-item.result c.loop-word-test.true ∙ ap (λ word. word ∷ rest) (sym item) in
-    let step : names c.loop-word.taken (c.as_str.result.now ∷ rest) ≡ None =
-    c.with.ensures rest ∙ ap (option_and_then (λ t. names t rest)) c.in_err-taken.was in
-    ap (option_map named_by) c.from_residual.ensures
-    ∙ sym step ∙ ap (names c.loop-word.taken) (sym at) ∙ c.loop-word.invariant
+    let step : remaining_command c.loop-word.words_read (c.as_str.result.now ∷ rest) ≡ None =
+    c.with.ensures rest ∙ ap (option_and_then (λ t. remaining_command t rest)) c.in_err-words_read.was in
+    ap (option_map seq_command) c.from_residual.ensures
+    ∙ sym step ∙ ap (remaining_command c.loop-word.words_read) (sym at) ∙ c.loop-word.invariant
 
 pub loop-word-preserved : goal.loop-word-preserved
 loop-word-preserved c =
@@ -25,6 +25,6 @@ loop-word-preserved c =
     let item = c.as_str.ensures.value ∙ ap string_bytes c.word-item.is in
     let at : drop c.loop-word.word-index words ≡ c.as_str.result.now ∷ rest =
     word_at string_bytes c.as_slice-word-items.result.now c.loop-word.word-index c.word-item.result c.loop-word-test.true ∙ ap (λ word. word ∷ rest) (sym item) in
-    let step : names c.loop-word.taken (c.as_str.result.now ∷ rest) ≡ names c.in_ok-taken.taken rest =
-    c.with.ensures rest ∙ ap (option_and_then (λ t. names t rest)) c.in_ok-taken.was in
-    sym step ∙ ap (names c.loop-word.taken) (sym at) ∙ c.loop-word.invariant
+    let step : remaining_command c.loop-word.words_read (c.as_str.result.now ∷ rest) ≡ remaining_command c.in_ok-words_read.words_read rest =
+    c.with.ensures rest ∙ ap (option_and_then (λ t. remaining_command t rest)) c.in_ok-words_read.was in
+    sym step ∙ ap (remaining_command c.loop-word.words_read) (sym at) ∙ c.loop-word.invariant

@@ -1,29 +1,29 @@
--- The command line as clap reads it: the grammar, and what it finds. Private functions' contracts cite it.
+-- The command line as clap reads it: the grammar, and the values that clap finds. Private functions' contracts cite it.
 use Rattle.std.specs.Prelude.{ℕ, true, Option, Some, None, List, [], ◌∷◌, codes}
 use Rattle.std.specs.Option.{option_and_then}
 use Rattle.clap.specs.Words.{App, Rule, first_value, new_app, new_rule, with_rule}
 use Rattle.clap.specs.Simple.{on_top}
 use Rattle.clap.specs.declared.parser.matches.Found.{Found}
 use Rattle.command_words.specs.Commands.{SeqCommand}
-use Rattle.command_words.specs.CommandReading.{command_after, turns_given}
+use Rattle.command_words.specs.Internal.CommandReading.{command_after, turns_options}
 
--- a command whose first word is no program's name, without `--help`
+-- A command whose first word is not the name of a program, without `--help`.
 abbrev pub no_rules : App
 no_rules = on_top (λ s. record s { no_binary_name = true; disable_help_flag = true }) (new_app (codes "liszt_run"))
 
 abbrev pub turns_rule : Rule
 turns_rule = record (new_rule (codes "turns")) { long = Some (codes "turns") }
 
--- four plain words and one option
+-- Four plain words and one option.
 abbrev pub seq_app : App
 seq_app = with_rule (with_rule (with_rule (with_rule (with_rule no_rules (new_rule (codes "mode"))) (new_rule (codes "program"))) (new_rule (codes "node"))) (new_rule (codes "ele"))) turns_rule
 
--- the command whose words are the values of these names
+-- The command with the values of these names.
 abbrev pub command_by : (List ℕ → Option (List ℕ)) → Option SeqCommand
 command_by value =
     option_and_then (λ mode. option_and_then (λ program. option_and_then (λ node. option_and_then (λ ele.
-    command_after None (turns_given (value (codes "turns"))) (mode ∷ program ∷ node ∷ ele ∷ []) []) (value (codes "ele"))) (value (codes "node")))
+    command_after None (turns_options (value (codes "turns"))) (mode ∷ program ∷ node ∷ ele ∷ []) []) (value (codes "ele"))) (value (codes "node")))
     (value (codes "program"))) (value (codes "mode"))
 
-abbrev pub command_found : Found → Option SeqCommand
-command_found found = command_by (first_value found)
+abbrev pub matched_command : Found → Option SeqCommand
+matched_command found = command_by (first_value found)
