@@ -14,7 +14,7 @@ use Rattle.liszt_lexer.specs.Lexer.{with_limit, prepend, tokens_or_first_fault, 
 use Rattle.liszt_lexer.proofs.FindingLemmas.{Reading, findings_by, same_findings, bytes_between}
 use Rattle.liszt_lexer.proofs.LeadingPieceLemmas.{leading_blank}
 use Rattle.liszt_lexer.proofs.PieceLemmas.{pieces_join}
-use Rattle.liszt_lexer.proofs.TokenEndLemmas.{TokenEndLemmas, token_stops, begins_well, leading_minus, leading_bang, leading_bracket}
+use Rattle.liszt_lexer.proofs.TokenEndLemmas.{EndsToken, token_stops, begins_well, leading_minus, leading_bang, leading_bracket}
 use Rattle.liszt_base.specs.Limits.{token_limit}
 
 -- what a token is, and its bytes
@@ -73,7 +73,7 @@ spells_front bytes rest kind words front is more =
     (a_token kind is.is more)
 
 -- a token before a byte that ends tokens
-pub spells_token : (bytes rest : List ℕ) (kind : TokenKind) (words : List Spelling) → IsSpelling kind bytes → TokenEndLemmas rest → Spells rest words
+pub spells_token : (bytes rest : List ℕ) (kind : TokenKind) (words : List Spelling) → IsSpelling kind bytes → EndsToken rest → Spells rest words
     → Spells (bytes ++ rest) (record { kind = kind; bytes = bytes } ∷ words)
 spells_token bytes rest kind words is stops more = spells_front bytes rest kind words (token_stops bytes rest kind is.is stops) is more
 

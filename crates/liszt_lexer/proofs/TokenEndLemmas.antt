@@ -132,12 +132,12 @@ some_byte [] kind e = absurd cc
 some_byte (b ∷ bytes) kind e = omega arith
 
 -- the text begins with a byte that ends tokens
-abbrev pub TokenEndLemmas : List ℕ → Type 0
-TokenEndLemmas [] = ⊥
-TokenEndLemmas (b ∷ bytes) = ends_token b ≡ true
+abbrev pub EndsToken : List ℕ → Type 0
+EndsToken [] = ⊥
+EndsToken (b ∷ bytes) = ends_token b ≡ true
 
 -- before such a text a token is the longest piece,
-pub token_stops : (bytes rest : List ℕ) (kind : TokenKind) → piece bytes ≡ Some (Token kind) → TokenEndLemmas rest
+pub token_stops : (bytes rest : List ℕ) (kind : TokenKind) → piece bytes ≡ Some (Token kind) → EndsToken rest
     → IsLeadingPiece (bytes ++ rest) (length bytes) (Token kind)
 token_stops bytes [] kind is stops = absurd stops
 token_stops bytes (b ∷ rest) kind is stops =

@@ -8,10 +8,10 @@ use Rattle.liszt_lexer.specs.declared.token.TokenKind.{TokenKind}
 use Rattle.liszt_lexer.specs.declared.token.TokenKind.TheVariants.{Name as NameToken, Number as NumberToken, Word, Symbol}
 use Rattle.liszt_tree.specs.declared.tree.Rel.TheVariants.{Below}
 use Rattle.liszt_tree.specs.Tree.{Number, Name, Compare, no_item}
-use Rattle.liszt_parser.specs.CaseTexts.{HasFault, print_alone, syntax_at, deep_at, print_in_for, mesh_in_for, no_semicolon, two_prints, minus_bracket, plain_set, two_below, opened, nested, brace_in}
-use Rattle.liszt_parser.specs.Grammar.{Lexeme, lexemes, rel_of, compared, one_sum, one_operand, no_prefix, negated, number, name, in_brackets, IsBracketed, bracketed, by_brace, by_end, for, no_statements, statements, block, main_assign, main_if, main_for, print, no_items, items, main_block, no_main_else}
-use Rattle.liszt_parser.specs.ParseFault.{Begins, IsProgram, IsParseFault}
-use Rattle.liszt_parser.proofs.Faults.{up, sum_up, shallow, syntax_is, syntax_at_end, nothing_behind_print, deep_is, begins_by, one_item, nested_program, print_in_body, mesh_in_body, word_in_if, word_behind_print, nested_behind_print, compared_twice, brace_starts}
+use Rattle.liszt_parser.specs.CaseTexts.{HasFault, only_print, syntax_at, deep_at, print_in_for, mesh_in_for, no_semicolon, two_prints, minus_bracket, plain_set, two_below, opened, nested, brace_in}
+use Rattle.liszt_parser.specs.Grammar.{Lexeme, lexemes, rel_of, compared, one_sum, one_operand, no_prefix, negation, number, name, in_brackets, IsBracketed, bracketed, by_brace, by_end, for, no_statements, statements, block, main_assign, main_if, main_for, print, no_items, items, main_block, no_main_else}
+use Rattle.liszt_parser.specs.ParseFault.{IsProgramPrefix, IsProgram, IsParseFault}
+use Rattle.liszt_parser.proofs.Faults.{up, sum_up, shallow, syntax_is, syntax_at_end, nothing_after_print, deep_is, begins_by, one_item, nested_program, print_in_body, mesh_in_body, word_in_if, word_after_print, nested_after_print, compared_twice, brace_starts}
 
 -- TOKENS of the first line: a word or a symbol by its place in the lists, a number, a name, each with its column and bytes
 abbrev token : TokenKind → ℕ → List ℕ → Lexeme
@@ -56,12 +56,12 @@ no_text = ([], refl, ((no_item, no_items), λ place k l. absurd (omega arith)))
 abbrev print_tokens : List Lexeme
 print_tokens = for_cells (word 7 26 (codes "print") ∷ digits 1 32 (codes "1") ∷ symbol 3 34 (codes "}") ∷ [])
 
-print_before : Begins (take 10 print_tokens)
+print_before : IsProgramPrefix (take 10 print_tokens)
 print_before =
     begins_by (for_cells []) (symbol 3 0 [] ∷ [])
     (one_item (main_for _ _ _ _ _ _ _ _ _ refl refl refl refl refl refl refl refl refl (block _ _ refl no_statements refl)))
 
-print_not : Begins (take 11 print_tokens) → ⊥
+print_not : IsProgramPrefix (take 11 print_tokens) → ⊥
 print_not b = print_in_body _ _ _ _ _ _ _ _ _ _ _ b.0 b.1 refl refl b.2
 
 pub print_fault : HasFault print_in_for (syntax_at 1 26)
@@ -80,14 +80,14 @@ mesh_tokens =
     for_vertices (word 8 45 (codes "mesh") ∷ symbol 1 49 (codes ")") ∷ symbol 1 50 (codes ")") ∷ symbol 2 52 (codes "{")
     ∷ symbol 3 54 (codes "}") ∷ symbol 3 56 (codes "}") ∷ [])
 
-mesh_before : Begins (take 16 mesh_tokens)
+mesh_before : IsProgramPrefix (take 16 mesh_tokens)
 mesh_before =
     begins_by (for_vertices []) (letters 45 [] ∷ symbol 1 49 [] ∷ symbol 1 50 [] ∷ symbol 2 52 [] ∷ symbol 3 54 [] ∷ symbol 3 56 [] ∷ [])
     (one_item (main_for _ _ _ _ _ _ _ _ _ refl refl refl refl refl refl refl refl refl (block _ _ refl (statements
     (for _ _ _ _ _ _ refl refl refl refl refl (bracketed _ _ refl (up (name _ refl)) refl) refl (block _ _ refl no_statements refl))
     no_statements) refl)))
 
-mesh_not : Begins (take 17 mesh_tokens) → ⊥
+mesh_not : IsProgramPrefix (take 17 mesh_tokens) → ⊥
 mesh_not b = mesh_in_body _ _ _ _ _ _ _ _ _ _ _ _ _ _ _ _ _ b.0 b.1 refl refl refl b.2
 
 pub mesh_fault : HasFault mesh_in_for (syntax_at 1 45)
@@ -111,13 +111,13 @@ below_test o a l b c ts n ho ha hl hb hc =
     below : (kind : TokenKind) → kind ≡ Symbol 12 → rel_of kind ≡ Some Below
     below kind e = ap rel_of e
 
-if_before : Begins (take 10 if_tokens)
+if_before : IsProgramPrefix (take 10 if_tokens)
 if_before =
     begins_by (take 10 if_tokens) (symbol 3 20 [] ∷ [])
     (one_item (main_if _ refl (below_test _ _ _ _ _ _ (pos 1) refl refl refl refl refl) (main_block _ _ refl
     (items (main_assign _ _ refl refl (up (number _ refl)) (by_brace _ refl)) no_items) refl) no_main_else))
 
-if_not : Begins (take 11 if_tokens) → ⊥
+if_not : IsProgramPrefix (take 11 if_tokens) → ⊥
 if_not b = word_in_if _ _ _ _ _ _ _ b.0 _ (pos 1) 4 b.1 refl refl refl refl (below_test _ _ _ _ _ _ (pos 1) refl refl refl refl refl) b.2
 
 pub if_fault : HasFault no_semicolon (syntax_at 1 20)
@@ -129,11 +129,11 @@ if_fault =
 abbrev prints_tokens : List Lexeme
 prints_tokens = word 7 1 (codes "print") ∷ digits 1 7 (codes "1") ∷ word 7 9 (codes "print") ∷ digits 2 15 (codes "2") ∷ []
 
-prints_before : Begins (take 2 prints_tokens)
+prints_before : IsProgramPrefix (take 2 prints_tokens)
 prints_before = begins_by (take 2 prints_tokens) [] (one_item (print _ refl (up (number _ refl)) by_end))
 
-prints_not : Begins (take 3 prints_tokens) → ⊥
-prints_not b = word_behind_print _ _ _ b.0 (pos 1) 7 b.1 refl refl refl b.2
+prints_not : IsProgramPrefix (take 3 prints_tokens) → ⊥
+prints_not b = word_after_print _ _ _ b.0 (pos 1) 7 b.1 refl refl refl b.2
 
 pub prints_fault : HasFault two_prints (syntax_at 1 9)
 prints_fault =
@@ -141,16 +141,16 @@ prints_fault =
     (syntax_is prints_tokens (end_of two_prints) 2 _ (omega arith) prints_before prints_not refl refl) refl
 
 -- NOTHING BEHIND `print`
-abbrev alone_tokens : List Lexeme
-alone_tokens = word 7 1 (codes "print") ∷ []
+abbrev primary_tokens : List Lexeme
+primary_tokens = word 7 1 (codes "print") ∷ []
 
-alone_before : Begins alone_tokens
-alone_before = begins_by alone_tokens (digits 1 0 [] ∷ []) (one_item (print _ refl (up (number _ refl)) by_end))
+primary_before : IsProgramPrefix primary_tokens
+primary_before = begins_by primary_tokens (digits 1 0 [] ∷ []) (one_item (print _ refl (up (number _ refl)) by_end))
 
-pub alone_fault : HasFault print_alone (syntax_at 1 6)
-alone_fault =
-    by_tokens print_alone alone_tokens (syntax_at 1 6) refl
-    (syntax_at_end alone_tokens (end_of print_alone) _ alone_before (λ p. nothing_behind_print _ p.0 refl p.1) refl refl) refl
+pub primary_fault : HasFault only_print (syntax_at 1 6)
+primary_fault =
+    by_tokens only_print primary_tokens (syntax_at 1 6) refl
+    (syntax_at_end primary_tokens (end_of only_print) _ primary_before (λ p. nothing_after_print _ p.0 refl p.1) refl refl) refl
 
 -- NO FAULT
 abbrev minus_tokens : List Lexeme
@@ -160,7 +160,7 @@ minus_tokens =
 minus_program : IsProgram minus_tokens
 minus_program =
     one_item (print _ refl (one_operand (one_operand (one_sum (one_operand (one_operand
-    (negated _ refl (no_prefix (in_brackets (bracketed _ _ refl (up (name _ refl)) refl))))))))) by_end)
+    (negation _ refl (no_prefix (in_brackets (bracketed _ _ refl (up (name _ refl)) refl))))))))) by_end)
 
 pub minus_fault : HasFault minus_bracket None
 minus_fault = by_tokens minus_bracket minus_tokens None refl (minus_program, shallow minus_tokens 5 refl) refl
@@ -180,13 +180,13 @@ below_tokens =
     word 7 1 (codes "print") ∷ letters 7 (codes "a") ∷ symbol 12 9 (codes "<") ∷ letters 11 (codes "b") ∷ symbol 12 13 (codes "<")
     ∷ letters 15 (codes "c") ∷ []
 
-below_before : Begins (take 4 below_tokens)
+below_before : IsProgramPrefix (take 4 below_tokens)
 below_before =
     begins_by (take 4 below_tokens) []
     (one_item (print _ refl
     (one_operand (one_operand (compared {rel = Below} _ (sum_up (name _ refl)) refl (sum_up (name _ refl))))) by_end))
 
-below_not : Begins (take 5 below_tokens) → ⊥
+below_not : IsProgramPrefix (take 5 below_tokens) → ⊥
 below_not b = compared_twice _ _ _ _ _ b.0 Below Below b.1 refl refl refl refl refl b.2
 
 pub below_fault : HasFault two_below (syntax_at 1 13)
@@ -213,10 +213,10 @@ abbrev one_at : ℕ → Lexeme
 one_at col = digits 1 col (codes "1")
 
 -- so many opening brackets begin a program
-opened_begin : (count : ℕ) → IsProgram (opened_tokens count ++ (one_at 0 ∷ closings count 0)) → Begins (opened_tokens count)
+opened_begin : (count : ℕ) → IsProgram (opened_tokens count ++ (one_at 0 ∷ closings count 0)) → IsProgramPrefix (opened_tokens count)
 opened_begin count p = begins_by (opened_tokens count) (one_at 0 ∷ closings count 0) p
 
-deep_begins : Begins (take 66 (opened_tokens 65))
+deep_begins : IsProgramPrefix (take 66 (opened_tokens 65))
 deep_begins = opened_begin 65 (nested_program _ (one_at 0) (pos 1) (reverse (openings 65)) (closings 65 0) refl refl refl refl refl)
 
 pub deep_fault : HasFault (opened 65) (deep_at 1 71)
@@ -238,11 +238,11 @@ nested_fault = by_tokens (nested 64) nested_tokens None refl (nested_is, shallow
 abbrev brace_tokens : List Lexeme
 brace_tokens = opened_tokens 64 ++ (symbol 2 71 (codes "{") ∷ [])
 
-brace_before : Begins (take 65 brace_tokens)
+brace_before : IsProgramPrefix (take 65 brace_tokens)
 brace_before = opened_begin 64 (nested_program _ (one_at 0) (pos 1) (reverse (openings 64)) (closings 64 0) refl refl refl refl refl)
 
-brace_not : Begins (take 66 brace_tokens) → ⊥
-brace_not b = nested_behind_print _ (symbol 2 71 (codes "{")) (openings 64) b.0 b.1 refl refl brace_starts b.2
+brace_not : IsProgramPrefix (take 66 brace_tokens) → ⊥
+brace_not b = nested_after_print _ (symbol 2 71 (codes "{")) (openings 64) b.0 b.1 refl refl brace_starts b.2
 
 pub brace_fault : HasFault (brace_in 64) (syntax_at 1 71)
 brace_fault =

@@ -13,13 +13,14 @@ use Rattle.liszt_tree.specs.declared.tree.Level.TheVariants.{Or, And, Sum, Produ
 use Rattle.liszt_tree.specs.declared.tree.Rel.{Rel}
 use Rattle.liszt_tree.specs.Tree.{Expression, Number, Name, Links, Statement, Body, MainItem, Main, no_item, item}
 use Rattle.liszt_parser.specs.Depth.{is_symbol, is_open_bracket, is_close_bracket, depth}
-use Rattle.liszt_parser.specs.Grammar.{Lexeme, Rank, chain, comparison, alone, operand, any, fun_of, sign_of, rel_of, open_bracket, close_bracket, open_brace, if_word, for_word, print_word, mesh_word, IsExpression, one_operand, chained, one_sum, compared, no_prefix, negated, denied, number, name, field, call, towards, in_brackets, IsLinks, no_more_links, linked, IsBracketed, bracketed, Closes, by_semicolon, by_brace, by_end, is_declared, IsStatement, var, val, assign, if, while, for, no_statements, statements, IsBlock, block, IsItem, main_field, main_var, main_assign, main_if, main_while, main_for, print, IsMain, no_items, items, IsMainBlock, main_block}
+use Rattle.liszt_parser.specs.Grammar.{Lexeme, Rank, chain, comparison, primary_expression, operand, lowest_rank, fun_of, sign_of, rel_of, open_bracket, close_bracket, open_brace, if_word, for_word, print_word, mesh_word, IsExpression, one_operand, chained, one_sum, compared, no_prefix, negation, logical_not, number, name, field, call, towards, in_brackets, IsLinks, no_more_links, linked, IsBracketed, bracketed, Closes, by_semicolon, by_brace, by_end, is_declared, IsStatement, var, val, assign, if, while, for, no_statements, statements, IsBlock, block, IsItem, main_field, main_var, main_assign, main_if, main_while, main_for, print, IsMain, no_items, items, IsMainBlock, main_block}
 use Rattle.liszt_base.specs.declared.answers.ProgramFault.{ProgramFault}
 use Rattle.liszt_base.specs.declared.answers.ProgramWhat.TheVariants.{Syntax, Deep}
-use Rattle.liszt_parser.specs.ParseFault.{Begins, IsProgram, IsShallow, IsSyntaxAt, IsDeepAt, place_of, fault_at, IsParseFault}
-use Rattle.liszt_parser.specs.Sorts.{Stops, level_strength, rank_strength, strength, strength_at}
+use Rattle.liszt_parser.specs.ParseFault.{IsProgramPrefix, IsProgram, IsShallow, IsSyntaxAt, IsDeepAt, place_of, fault_at, IsParseFault}
+use Rattle.liszt_parser.specs.Internal.Sorts.{Stops, level_strength, rank_strength, strength, strength_at}
 use Rattle.liszt_parser.proofs.OneExpression.{one_expression, one_bracketed}
 use Rattle.liszt_parser.proofs.Sorts.{sign_strength, rel_strength, closes_stops}
+use Rattle.liszt_base.specs.Limits.{depth_limit}
 
 -- EXPRESSIONS
 -- whether a token begins an expression
@@ -56,8 +57,8 @@ starts_of (chained d l) = starts_of d
 starts_of (one_sum d) = starts_of d
 starts_of (compared t d h d') = starts_of d
 starts_of (no_prefix d) = starts_of d
-starts_of (negated t h d) = ap starts h
-starts_of (denied t h d) = ap starts h
+starts_of (negation t h d) = ap starts h
+starts_of (logical_not t h d) = ap starts h
 starts_of (number t h) = ap starts h
 starts_of (name t h) = ap starts h
 starts_of (field t h b) = ap starts h
@@ -83,7 +84,7 @@ is_close t h = symbol_kind 1 t.kind t.place t.bytes h
 
 -- an expression that begins with a bracket has one behind it
 abbrev Begun : List Lexeme → Type 0
-Begun ts = (e : Expression) × (left : List Lexeme) × IsExpression any ts e left
+Begun ts = (e : Expression) × (left : List Lexeme) × IsExpression lowest_rank ts e left
 
 abbrev Inside : List Lexeme → Type 0
 Inside [] = ⊤
@@ -98,8 +99,8 @@ inside (chained d l) = inside d
 inside (one_sum d) = inside d
 inside (compared t d h d') = inside d
 inside (no_prefix d) = inside d
-inside (negated t h d) = λ h'. absurd cc
-inside (denied t h d) = λ h'. absurd cc
+inside (negation t h d) = λ h'. absurd cc
+inside (logical_not t h d) = λ h'. absurd cc
 inside (number t h) = λ h'. absurd cc
 inside (name t h) = λ h'. absurd cc
 inside (field t h b) = λ h'. absurd cc
@@ -109,7 +110,7 @@ inside (in_brackets (bracketed {left} {e} o c h d h')) = λ k. (e, c ∷ left, d
 
 -- brackets and then a token that begins no expression begin none
 pub no_nested : (os : List Lexeme) (t : Lexeme) (ts left : List Lexeme) (e : Expression) → list_all is_open_bracket os ≡ true
-    → starts t.kind ≡ false → IsExpression any (os ++ t ∷ ts) e left → ⊥
+    → starts t.kind ≡ false → IsExpression lowest_rank (os ++ t ∷ ts) e left → ⊥
 no_nested [] t ts left e h h' d = no_expression t h' d
 no_nested (o ∷ os) t ts left e h h' d =
     let both : (is_open_bracket o ≡ true) × (list_all is_open_bracket os ≡ true) = grind arith in
@@ -117,10 +118,10 @@ no_nested (o ∷ os) t ts left e h h' d =
     no_nested os t ts i.1 i.0 both.1 h' i.2
 
 -- what stands alone is an expression
-pub sum_up : {ts left : List Lexeme} {e : Expression} → IsExpression alone ts e left → IsExpression (chain Sum) ts e left
+pub sum_up : {ts left : List Lexeme} {e : Expression} → IsExpression primary_expression ts e left → IsExpression (chain Sum) ts e left
 sum_up d = one_operand (one_operand (no_prefix d))
 
-pub up : {ts left : List Lexeme} {e : Expression} → IsExpression alone ts e left → IsExpression any ts e left
+pub up : {ts left : List Lexeme} {e : Expression} → IsExpression primary_expression ts e left → IsExpression lowest_rank ts e left
 up d = one_operand (one_operand (one_sum (one_operand (one_operand (no_prefix d)))))
 
 -- an expression in brackets is one: the opening ones from the inside out, and as many closing ones
@@ -129,7 +130,7 @@ onto [] ts = ts
 onto (o ∷ os) ts = onto os (o ∷ ts)
 
 pub wrapped : (os cs ts left : List Lexeme) (e : Expression) → list_all is_open_bracket os ≡ true → list_all is_close_bracket cs ≡ true
-    → length os ≡ length cs → IsExpression any ts e (cs ++ left) → (e' : Expression) × IsExpression any (onto os ts) e' left
+    → length os ≡ length cs → IsExpression lowest_rank ts e (cs ++ left) → (e' : Expression) × IsExpression lowest_rank (onto os ts) e' left
 wrapped [] [] ts left e h k l d = (e, d)
 wrapped [] (c ∷ cs) ts left e h k l d = absurd (omega arith)
 wrapped (o ∷ os) [] ts left e h k l d = absurd (omega arith)
@@ -190,8 +191,8 @@ number_then (one_sum d) = number_then d
 number_then (compared {ts} {mid} {left} t d h d') =
     number_onto ts (t ∷ mid) left (number_then d) (λ u us i e. no_rel_then u t us mid left i h e)
 number_then (no_prefix d) = number_then d
-number_then (negated {ts} {left} t h d) = not_number t ts left (λ n h'. absurd cc)
-number_then (denied {ts} {left} t h d) = not_number t ts left (λ n h'. absurd cc)
+number_then (negation {ts} {left} t h d) = not_number t ts left (λ n h'. absurd cc)
+number_then (logical_not {ts} {left} t h d) = not_number t ts left (λ n h'. absurd cc)
 number_then (number {left} t h) = number_left t left
 number_then (name {left} t h) = not_number t left left (λ n h'. absurd cc)
 number_then (field {ts} {left} t h b) = not_number t ts left (λ n h'. absurd cc)
@@ -201,7 +202,7 @@ number_then (in_brackets (bracketed {ts} {left} o c h d h')) = not_number o ts l
 
 -- an expression and what closes it
 abbrev pub Closed : List Lexeme → List Lexeme → Type 0
-Closed ts left = (e : Expression) × (mid : List Lexeme) × IsExpression any ts e mid × Closes mid left
+Closed ts left = (e : Expression) × (mid : List Lexeme) × IsExpression lowest_rank ts e mid × Closes mid left
 
 no_close : {mid left : List Lexeme} (n : ℕ) (t : Lexeme) (ts : List Lexeme) → t.kind ≡ Word n → mid ≡ t ∷ ts → Closes mid left → ⊥
 no_close n t ts h e (by_semicolon t' h') = let kinds : t'.kind ≡ t.kind = cc in absurd cc
@@ -243,8 +244,8 @@ first_of_chain (chained {mid} {first} d l) stop = record { e = first; left = mid
 rel_stops : (t : Lexeme) (ts : List Lexeme) (rel : Rel) → rel_of t.kind ≡ Some rel → Stops (chain Sum) (t ∷ ts)
 rel_stops t ts rel h = let is = rel_strength t.kind rel h in omega arith
 
-rel_goes_on : (t : Lexeme) (ts left : List Lexeme) (rel : Rel) → rel_of t.kind ≡ Some rel → t ∷ ts ≡ left → Stops comparison left → ⊥
-rel_goes_on t ts left rel h e stop =
+rel_continues : (t : Lexeme) (ts left : List Lexeme) (rel : Rel) → rel_of t.kind ≡ Some rel → t ∷ ts ≡ left → Stops comparison left → ⊥
+rel_continues t ts left rel h e stop =
     let is = rel_strength t.kind rel h in
     let stops : Stops comparison (t ∷ ts) = subst (Stops comparison) (sym e) stop in
     omega arith
@@ -268,13 +269,13 @@ record Twice (ts : List Lexeme) : Type 0 where
 no_comparison : {ts left : List Lexeme} {e : Expression} → IsExpression comparison ts e left → Stops comparison left → Twice ts → ⊥
 no_comparison (one_sum {left} {e} d) stop w =
     let a = one_expression w.one (rel_stops w.t w.mid w.rel w.is_rel) e left d (omega arith) in
-    rel_goes_on w.t w.mid left w.rel w.is_rel a.1 stop
+    rel_continues w.t w.mid left w.rel w.is_rel a.1 stop
 no_comparison (compared {mid} {left} {a = x} {b} {rel} t d h d') stop w =
     let a = one_expression w.one (rel_stops w.t w.mid w.rel w.is_rel) x (t ∷ mid) d (rel_stops t mid rel h) in
     let mids : mid ≡ w.mid = cc (a.1) in
     let c = one_expression w.two (rel_stops w.u w.rest w.rel' w.is_rel') b left
     (subst (λ m. IsExpression (chain Sum) m b left) mids d') (omega arith) in
-    rel_goes_on w.u w.rest left w.rel' w.is_rel' c.1 stop
+    rel_continues w.u w.rest left w.rel' w.is_rel' c.1 stop
 
 -- and so no expression that is closed begins with them
 twice_closed : {ts left : List Lexeme} → Twice ts → Closed ts left → ⊥
@@ -396,18 +397,18 @@ at_each p (suc n) h k l = go (k == n) refl (at_each p n both.1 k)
 
 -- the depth is at most 64 where the test says so
 abbrev pub shallow_at : List Lexeme → ℕ → Bool
-shallow_at ts place = nat_le (depth (take (place + 1) ts)) 64
+shallow_at ts place = nat_le (depth (take (place + 1) ts)) depth_limit
 
 pub shallow : (ts : List Lexeme) (n : ℕ) → all_below (shallow_at ts) n ≡ true → IsShallow ts n
 shallow ts n h place k l = is (depth (take (place + 1) ts)) (at_each (shallow_at ts) n h place k)
   where
-    is : (d : ℕ) → nat_le d 64 ≡ true → d ≤ 64
+    is : (d : ℕ) → nat_le d depth_limit ≡ true → d ≤ depth_limit
     is d e = grind (arith, nat_tests)
 
 -- FAULTS
 -- Syntax at a token, and Deep, where the tests of the depths compute
-pub syntax_is : (ts : List Lexeme) (ending : Place) (place : ℕ) (fault : ProgramFault) → place < length ts → Begins (take place ts)
-    → (Begins (take (place + 1) ts) → ⊥) → all_below (shallow_at ts) place ≡ true → fault ≡ fault_at Syntax (place_of ts ending place)
+pub syntax_is : (ts : List Lexeme) (ending : Place) (place : ℕ) (fault : ProgramFault) → place < length ts → IsProgramPrefix (take place ts)
+    → (IsProgramPrefix (take (place + 1) ts) → ⊥) → all_below (shallow_at ts) place ≡ true → fault ≡ fault_at Syntax (place_of ts ending place)
     → IsParseFault ts ending (Some fault)
 syntax_is ts ending place fault l before token flat is = (place, inl (is_syntax, shallow ts place flat, is))
   where
@@ -415,7 +416,7 @@ syntax_is ts ending place fault l before token flat is = (place, inl (is_syntax,
     is_syntax = record { within = omega arith; before = before; token = λ k. token; «end» = λ e. absurd (omega arith) }
 
 -- and Syntax at the end
-pub syntax_at_end : (ts : List Lexeme) (ending : Place) (fault : ProgramFault) → Begins ts → (IsProgram ts → ⊥)
+pub syntax_at_end : (ts : List Lexeme) (ending : Place) (fault : ProgramFault) → IsProgramPrefix ts → (IsProgram ts → ⊥)
     → all_below (shallow_at ts) (length ts) ≡ true → fault ≡ fault_at Syntax (place_of ts ending (length ts))
     → IsParseFault ts ending (Some fault)
 syntax_at_end ts ending fault before «end» flat is = (length ts, inl (is_syntax, shallow ts (length ts) flat, is))
@@ -425,14 +426,14 @@ syntax_at_end ts ending fault before «end» flat is = (length ts, inl (is_synta
 
     is_syntax : IsSyntaxAt ts (length ts)
     is_syntax =
-        record { within = omega arith; before = subst Begins (sym whole) before; token = λ k. absurd (omega arith); «end» = λ e. «end» }
+        record { within = omega arith; before = subst IsProgramPrefix (sym whole) before; token = λ k. absurd (omega arith); «end» = λ e. «end» }
 
 pub deep_is : (ts : List Lexeme) (ending : Place) (place : ℕ) (fault : ProgramFault) → place < length ts → shallow_at ts place ≡ false
-    → all_below (shallow_at ts) place ≡ true → Begins (take (place + 1) ts) → fault ≡ fault_at Deep (place_of ts ending place)
+    → all_below (shallow_at ts) place ≡ true → IsProgramPrefix (take (place + 1) ts) → fault ≡ fault_at Deep (place_of ts ending place)
     → IsParseFault ts ending (Some fault)
 deep_is ts ending place fault l deep flat begins is = (place, inr (is_deep, is))
   where
-    above : (d : ℕ) → nat_le d 64 ≡ false → 64 < d
+    above : (d : ℕ) → nat_le d depth_limit ≡ false → depth_limit < d
     above d e = grind (arith, nat_tests)
 
     is_deep : IsDeepAt ts place
@@ -440,7 +441,7 @@ deep_is ts ending place fault l deep flat begins is = (place, inr (is_deep, is))
         record { within = l; deep = above (depth (take (place + 1) ts)) deep; shallow = shallow ts place flat; begins = begins }
 
 -- tokens begin a program where they and others are one
-pub begins_by : (front rest : List Lexeme) → IsProgram (front ++ rest) → Begins front
+pub begins_by : (front rest : List Lexeme) → IsProgram (front ++ rest) → IsProgramPrefix front
 begins_by front rest d = (rest, d.0, d.1)
 
 -- a program of one item
@@ -484,24 +485,24 @@ word_in_if w b n s v t test ts e value place tree h hn hv ht d m =
     no_closed v t ts value place hv ht (assign_item n s hn j.2)
 
 -- a word behind `print` and a number
-pub word_behind_print : (w v t : Lexeme) (ts : List Lexeme) (value : ℤ) (place : ℕ) (tree : Main) → w.kind ≡ print_word
+pub word_after_print : (w v t : Lexeme) (ts : List Lexeme) (value : ℤ) (place : ℕ) (tree : Main) → w.kind ≡ print_word
     → v.kind ≡ NumberToken value → t.kind ≡ Word place → IsMain (w ∷ v ∷ t ∷ ts) tree [] → ⊥
-word_behind_print w v t ts value place tree h hv ht m =
+word_after_print w v t ts value place tree h hv ht m =
     let i = program_item w (v ∷ t ∷ ts) tree m in
     no_closed v t ts value place hv ht (print_item w h i.2)
 
 -- nothing behind `print`
-pub nothing_behind_print : (w : Lexeme) (tree : Main) → w.kind ≡ print_word → IsMain (w ∷ []) tree [] → ⊥
-nothing_behind_print w tree h m =
+pub nothing_after_print : (w : Lexeme) (tree : Main) → w.kind ≡ print_word → IsMain (w ∷ []) tree [] → ⊥
+nothing_after_print w tree h m =
     let i = program_item w [] tree m in
     let c = print_item w h i.2 in
     let begins = starts_of c.2 in
     cc
 
 -- brackets behind `print`, and then what begins no expression
-pub nested_behind_print : (w t : Lexeme) (os ts : List Lexeme) (tree : Main) → w.kind ≡ print_word → list_all is_open_bracket os ≡ true
+pub nested_after_print : (w t : Lexeme) (os ts : List Lexeme) (tree : Main) → w.kind ≡ print_word → list_all is_open_bracket os ≡ true
     → starts t.kind ≡ false → IsMain (w ∷ (os ++ t ∷ ts)) tree [] → ⊥
-nested_behind_print w t os ts tree h ho ht m =
+nested_after_print w t os ts tree h ho ht m =
     let i = program_item w (os ++ t ∷ ts) tree m in
     let c = print_item w h i.2 in
     no_nested os t ts c.1 c.0 ho ht c.2

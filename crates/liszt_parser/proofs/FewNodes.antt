@@ -4,8 +4,8 @@ use Rattle.liszt_lexer.specs.declared.token.TokenKind.{TokenKind}
 use Rattle.liszt_tree.specs.declared.tree.Level.{Level}
 use Rattle.liszt_tree.specs.Tree.{Expression, Links, no_links, link, Statement, Body, MainItem, Main, expression_nodes, links_nodes}
 use Rattle.liszt_tree.specs.Tree.{target_nodes, statement_nodes, body_nodes, item_nodes, main_nodes}
-use Rattle.liszt_parser.specs.Grammar.{Lexeme, Rank, Derives, IsExpression, one_operand, chained, one_sum, compared, no_prefix, negated}
-use Rattle.liszt_parser.specs.Grammar.{denied, number, name, field, call, towards, in_brackets, IsLinks, no_more_links, linked}
+use Rattle.liszt_parser.specs.Grammar.{Lexeme, Rank, Derives, IsExpression, one_operand, chained, one_sum, compared, no_prefix, negation}
+use Rattle.liszt_parser.specs.Grammar.{logical_not, number, name, field, call, towards, in_brackets, IsLinks, no_more_links, linked}
 use Rattle.liszt_parser.specs.Grammar.{IsBracketed, bracketed, Closes, by_semicolon, by_brace, by_end, IsDeclared, is_declared, IsTarget}
 use Rattle.liszt_parser.specs.Grammar.{no_target, target, IsStatement, var, val, assign, if, while, for, IsBody, no_statements}
 use Rattle.liszt_parser.specs.Grammar.{statements, IsBlock, block, IsElse, no_else, else, IsItem, main_field, main_var, main_assign}
@@ -26,8 +26,8 @@ mutual
   expression (one_sum d) = expression d
   expression (compared t d is e) = omega (arith, expression d, expression e)
   expression (no_prefix d) = expression d
-  expression (negated t is d) = omega (arith, expression d)
-  expression (denied t is d) = omega (arith, expression d)
+  expression (negation t is d) = omega (arith, expression d)
+  expression (logical_not t is d) = omega (arith, expression d)
   expression (number t is) = omega arith
   expression (name t is) = omega arith
   expression (field t is d) = omega (arith, brackets d)
@@ -44,15 +44,15 @@ mutual
   brackets (bracketed o c is d close) = omega (arith, expression d)
 
 -- what closes a statement leaves no more than there was
-closes : {ts left : List Lexeme} → Closes ts left → length left ≤ length ts
-closes (by_semicolon t is) = omega arith
-closes (by_brace t is) = omega arith
-closes by_end = omega arith
+is_closing : {ts left : List Lexeme} → Closes ts left → length left ≤ length ts
+is_closing (by_semicolon t is) = omega arith
+is_closing (by_brace t is) = omega arith
+is_closing by_end = omega arith
 
 -- a declaration has a node and those of its expression
-declared : {word : TokenKind} {ts left : List Lexeme} {w n : Lexeme} {e : Expression} → IsDeclared word ts w n e left
+declaration : {word : TokenKind} {ts left : List Lexeme} {w n : Lexeme} {e : Expression} → IsDeclared word ts w n e left
     → 1 + expression_nodes e + length left ≤ length ts
-declared (is_declared w n s is named set d close) = omega (arith, expression d, closes close)
+declaration (is_declared w n s is named set d close) = omega (arith, expression d, is_closing close)
 
 -- a target has the nodes of its expression
 targeted : {ts left : List Lexeme} {to : Option Expression} → IsTarget ts to left → target_nodes to + length left ≤ length ts
@@ -62,9 +62,9 @@ targeted (target d) = omega (arith, brackets d)
 -- the nodes of a statement, a body, a block and what follows an `if`
 mutual
   pub a_statement : {ts left : List Lexeme} {s : Statement} → IsStatement ts s left → statement_nodes s + length left ≤ length ts
-  a_statement (var d) = declared d
-  a_statement (val d) = declared d
-  a_statement (assign n h is to how d close) = omega (arith, targeted to, expression d, closes close)
+  a_statement (var d) = declaration d
+  a_statement (val d) = declaration d
+  a_statement (assign n h is to how d close) = omega (arith, targeted to, expression d, is_closing close)
   a_statement (if w is test first second) = omega (arith, brackets test, a_block first, an_else second)
   a_statement (while w is test body) = omega (arith, brackets test, a_block body)
   a_statement (for w o n a s c is opened named arrow set d close body) = omega (arith, brackets d, a_block body)
@@ -84,13 +84,13 @@ mutual
 -- the nodes of an item, the items, a block of them and what follows an `if`
 mutual
   pub an_item : {ts left : List Lexeme} {i : MainItem} → IsItem ts i left → item_nodes i + length left ≤ length ts
-  an_item (main_field w n d k s is named colon kind set e close) = omega (arith, expression e, closes close)
-  an_item (main_var d) = declared d
-  an_item (main_assign n h is how d close) = omega (arith, expression d, closes close)
+  an_item (main_field w n d k s is named colon kind set e close) = omega (arith, expression e, is_closing close)
+  an_item (main_var d) = declaration d
+  an_item (main_assign n h is how d close) = omega (arith, expression d, is_closing close)
   an_item (main_if w is test first second) = omega (arith, brackets test, a_main_block first, a_main_else second)
   an_item (main_while w is test body) = omega (arith, brackets test, a_main_block body)
   an_item (main_for w o n a k p m q c is opened named arrow whole inner mesh close close' body) = omega (arith, a_block body)
-  an_item (print w is d close) = omega (arith, expression d, closes close)
+  an_item (print w is d close) = omega (arith, expression d, is_closing close)
 
   a_main : {ts left : List Lexeme} {tree : Main} → IsMain ts tree left → main_nodes tree + length left ≤ length ts
   a_main no_items = omega arith

@@ -6,18 +6,18 @@ use Rattle.liszt_lexer.specs.declared.token.TokenKind.{TokenKind}
 use Rattle.liszt_lexer.specs.declared.token.TokenKind.TheVariants.{Name as NameToken}
 use Rattle.liszt_tree.specs.declared.tree.How.{How}
 use Rattle.liszt_tree.specs.Tree.{Expression, Body, MainItem, MainIf, Main, no_item}
-use Rattle.liszt_parser.specs.Grammar.{Lexeme, any, how_of, kind_of, whole_of, open_bracket, close_bracket, colon, arrow, set_to, field_word, var_word, if_word, else_word, while_word, for_word, print_word, mesh_word, IsExpression, IsBracketed, IsBlock, IsItem, main_field, main_var, main_assign, main_if, main_while, main_for, print, IsMainBlock, IsMainElse, no_main_else, main_else}
-use Rattle.liszt_parser.specs.Reading.{Reader, SameHead, HeadIs, Is, NotFirst, token, chosen, ◌then◌}
-use Rattle.liszt_parser.specs.Sorts.{a_var, a_field, an_if, a_while, a_for, a_print, NoElse}
-use Rattle.liszt_parser.specs.Productions.{brackets, blocks, closed, declared, main_items, main_blocks, main_elses, fields_tree, main_variables_tree, main_assignments_tree, main_branches_tree, main_repetitions_tree, comprehensions_tree, prints_tree}
+use Rattle.liszt_parser.specs.Grammar.{Lexeme, lowest_rank, how_of, kind_of, mesh_set_of, open_bracket, close_bracket, colon, arrow, set_to, field_word, var_word, if_word, else_word, while_word, for_word, print_word, mesh_word, IsExpression, IsBracketed, IsBlock, IsItem, main_field, main_var, main_assign, main_if, main_while, main_for, print, IsMainBlock, IsMainElse, no_main_else, main_else}
+use Rattle.liszt_parser.specs.Internal.Reading.{Reader, SameHead, HeadIs, Is, HeadIsNot, token, token_with_value, ◌then◌}
+use Rattle.liszt_parser.specs.Internal.Sorts.{a_var, a_field, an_if, a_while, a_for, a_print, NoElse}
+use Rattle.liszt_parser.specs.Internal.Productions.{brackets, blocks, closed, declaration, main_items, main_blocks, main_elses, fields_tree, main_variables_tree, main_assignments_tree, main_branches_tree, main_repetitions_tree, comprehensions_tree, prints_tree}
 use Rattle.liszt_parser.proofs.Sorts.{sort_var, sort_field, sort_if, sort_while, sort_for, sort_print, clash}
 use Rattle.liszt_parser.proofs.OneTree.{item_sort, item_begins}
 use Rattle.liszt_parser.proofs.Readers.{Becomes, head_by, same_back}
-use Rattle.liszt_parser.proofs.Heads.{head_sorted, not_else}
+use Rattle.liszt_parser.proofs.HeadLemmas.{head_sorted, not_else}
 use Rattle.liszt_parser.proofs.StatementProductions.{declared_into, declared_out, declared_first}
 
 abbrev pub fielded : Reader (Lexeme × (Lexeme × (Lexeme × ((Lexeme × Kind) × (Lexeme × Expression)))))
-fielded = token field_word then token NameToken then token colon then chosen kind_of then token set_to then closed
+fielded = token field_word then token NameToken then token colon then token_with_value kind_of then token set_to then closed
 
 pub field_becomes : (ts : List Lexeme) → HeadIs (Is field_word) ts → Becomes main_items fielded fields_tree ts
 field_becomes ts first =
@@ -35,7 +35,7 @@ field_becomes ts first =
         subst (λ z. IsItem z (fields_tree x) left)
         (sym (h.0 ∙ ap (λ z. x.0 ∷ z) (hn.0 ∙ ap (λ z. x.1.0 ∷ z) (hc.0 ∙ ap (λ z. x.1.1.0 ∷ z) (hk.0 ∙ ap (λ z. x.1.1.1.0.0 ∷ z) hs.0)))))
         (main_field x.0 x.1.0 x.1.1.0 x.1.1.1.0.0 x.1.1.1.1.0 h.1 hn.1 hc.1 hk.1 hs.1
-        (subst (λ z. IsExpression any m₅ z c.1.0) (sym c.2) c.1.1) c.1.2)
+        (subst (λ z. IsExpression lowest_rank m₅ z c.1.0) (sym c.2) c.1.1) c.1.2)
 
     out : (other left : List Lexeme) (e : MainItem) → HeadIs (Is field_word) other → IsItem other e left
         → (x : Lexeme × (Lexeme × (Lexeme × ((Lexeme × Kind) × (Lexeme × Expression))))) × fielded.reads other x left × ⊤ × (e ≡ fields_tree x)
@@ -67,7 +67,7 @@ field_becomes ts first =
     )
     out other left e h d = clash a_field (item_sort d) (head_sorted field_word other h ∙ sort_field refl) (item_begins d) refl
 
-pub main_var_becomes : (ts : List Lexeme) → HeadIs (Is var_word) ts → Becomes main_items (declared var_word) main_variables_tree ts
+pub main_var_becomes : (ts : List Lexeme) → HeadIs (Is var_word) ts → Becomes main_items (declaration var_word) main_variables_tree ts
 main_var_becomes ts first =
     record {
       into = λ us left x d. main_var (declared_into var_word us left x d);
@@ -76,16 +76,16 @@ main_var_becomes ts first =
     }
   where
     out : (other left : List Lexeme) (e : MainItem) → HeadIs (Is var_word) other → IsItem other e left
-        → (x : Lexeme × (Lexeme × Expression)) × (declared var_word).reads other x left × ⊤ × (e ≡ main_variables_tree x)
+        → (x : Lexeme × (Lexeme × Expression)) × (declaration var_word).reads other x left × ⊤ × (e ≡ main_variables_tree x)
     out other left e h (main_var {e = x} {w} {n} d) = ((w, (n, x)), declared_out var_word other left w n x d, tt, refl)
     out other left e h d = clash a_var (item_sort d) (head_sorted var_word other h ∙ sort_var refl) (item_begins d) refl
 
 -- ASSIGNMENTS, where no other item begins
 abbrev pub main_assigned : Reader (Lexeme × ((Lexeme × How) × Expression))
-main_assigned = token NameToken then chosen how_of then closed
+main_assigned = token NameToken then token_with_value how_of then closed
 
-pub main_assign_becomes : (ts : List Lexeme) → NotFirst (Is field_word) ts → NotFirst (Is var_word) ts → NotFirst (Is if_word) ts
-    → NotFirst (Is while_word) ts → NotFirst (Is for_word) ts → NotFirst (Is print_word) ts
+pub main_assign_becomes : (ts : List Lexeme) → HeadIsNot (Is field_word) ts → HeadIsNot (Is var_word) ts → HeadIsNot (Is if_word) ts
+    → HeadIsNot (Is while_word) ts → HeadIsNot (Is for_word) ts → HeadIsNot (Is print_word) ts
     → Becomes main_items main_assigned main_assignments_tree ts
 main_assign_becomes ts no_field no_var no_if no_while no_for no_print =
     record {
@@ -98,7 +98,7 @@ main_assign_becomes ts no_field no_var no_if no_while no_for no_print =
         → (mid ≡ x.1.0.0 ∷ mid') × (how_of x.1.0.0.kind ≡ Some x.1.0.1) → closed.reads mid' x.1.1 left → IsItem us (main_assignments_tree x) left
     into us left mid mid' x hn hh c =
         subst (λ z. IsItem z (main_assignments_tree x) left) (sym (hn.0 ∙ ap (λ z. x.0 ∷ z) hh.0))
-        (main_assign x.0 x.1.0.0 hn.1 hh.1 (subst (λ z. IsExpression any mid' z c.1.0) (sym c.2) c.1.1) c.1.2)
+        (main_assign x.0 x.1.0.0 hn.1 hh.1 (subst (λ z. IsExpression lowest_rank mid' z c.1.0) (sym c.2) c.1.1) c.1.2)
 
     back : (is : TokenKind → Type 0) (other : List Lexeme) → SameHead ts other → HeadIs is other → HeadIs is ts
     back is other h k = head_by is other ts (same_back ts other h) k
@@ -143,7 +143,7 @@ main_if_becomes ts first =
     otherwise us left w e first second has (main_else {ts = us'} v h k) = (Some second, ((v, second), (us', (refl, h), k), refl), refl)
 
     out : (other left : List Lexeme) (e : MainItem) → HeadIs (Is if_word) other → IsItem other e left → NoElse left
-        → (x : Lexeme × (Expression × (Main × Option Main))) × main_branched.reads other x left × (NotFirst (Is else_word) left × ⊤)
+        → (x : Lexeme × (Expression × (Main × Option Main))) × main_branched.reads other x left × (HeadIsNot (Is else_word) left × ⊤)
         × (e ≡ main_branches_tree x)
     out other left e h (main_if {ts = us} {mid} {mid'} {e = x} {first} {second} {has_else} w k b body l) stop =
         let o = otherwise mid' left w x first second has_else l in
@@ -168,7 +168,7 @@ main_while_becomes ts first =
 
 abbrev pub comprehended : Reader (Lexeme × (Lexeme × (Lexeme × (Lexeme × ((Lexeme × Kind) × (Lexeme × (Lexeme × (Lexeme × (Lexeme × Body)))))))))
 comprehended =
-    token for_word then token open_bracket then token NameToken then token arrow then chosen whole_of then token open_bracket
+    token for_word then token open_bracket then token NameToken then token arrow then token_with_value mesh_set_of then token open_bracket
     then token mesh_word then token close_bracket then token close_bracket then blocks
 
 pub main_for_becomes : (ts : List Lexeme) → HeadIs (Is for_word) ts → Becomes main_items comprehended comprehensions_tree ts
@@ -184,7 +184,7 @@ main_for_becomes ts first =
     into : (us left m₁ m₂ m₃ m₄ m₅ m₆ m₇ m₈ m₉ : List Lexeme)
         (x : Lexeme × (Lexeme × (Lexeme × (Lexeme × ((Lexeme × Kind) × (Lexeme × (Lexeme × (Lexeme × (Lexeme × Body)))))))))
         → (us ≡ x.0 ∷ m₁) × (x.0.kind ≡ for_word) → (m₁ ≡ x.1.0 ∷ m₂) × (x.1.0.kind ≡ open_bracket) → (m₂ ≡ x.1.1.0 ∷ m₃) × (x.1.1.0.kind ≡ NameToken)
-        → (m₃ ≡ x.1.1.1.0 ∷ m₄) × (x.1.1.1.0.kind ≡ arrow) → (m₄ ≡ x.1.1.1.1.0.0 ∷ m₅) × (whole_of x.1.1.1.1.0.0.kind ≡ Some x.1.1.1.1.0.1)
+        → (m₃ ≡ x.1.1.1.0 ∷ m₄) × (x.1.1.1.0.kind ≡ arrow) → (m₄ ≡ x.1.1.1.1.0.0 ∷ m₅) × (mesh_set_of x.1.1.1.1.0.0.kind ≡ Some x.1.1.1.1.0.1)
         → (m₅ ≡ x.1.1.1.1.1.0 ∷ m₆) × (x.1.1.1.1.1.0.kind ≡ open_bracket) → (m₆ ≡ x.1.1.1.1.1.1.0 ∷ m₇) × (x.1.1.1.1.1.1.0.kind ≡ mesh_word)
         → (m₇ ≡ x.1.1.1.1.1.1.1.0 ∷ m₈) × (x.1.1.1.1.1.1.1.0.kind ≡ close_bracket)
         → (m₈ ≡ x.1.1.1.1.1.1.1.1.0 ∷ m₉) × (x.1.1.1.1.1.1.1.1.0.kind ≡ close_bracket)
@@ -250,7 +250,7 @@ print_becomes ts first =
     into : (us left mid : List Lexeme) (x : Lexeme × Expression) → (us ≡ x.0 ∷ mid) × (x.0.kind ≡ print_word) → closed.reads mid x.1 left
         → IsItem us (prints_tree x) left
     into us left mid x h c =
-        subst (λ z. IsItem z (prints_tree x) left) (sym h.0) (print x.0 h.1 (subst (λ z. IsExpression any mid z c.1.0) (sym c.2) c.1.1) c.1.2)
+        subst (λ z. IsItem z (prints_tree x) left) (sym h.0) (print x.0 h.1 (subst (λ z. IsExpression lowest_rank mid z c.1.0) (sym c.2) c.1.1) c.1.2)
 
     out : (other left : List Lexeme) (e : MainItem) → HeadIs (Is print_word) other → IsItem other e left
         → (x : Lexeme × Expression) × printed.reads other x left × ⊤ × (e ≡ prints_tree x)

@@ -6,30 +6,30 @@ use Rattle.liszt_base.specs.declared.elements.Kind.TheVariants.{Vertex}
 use Rattle.liszt_lexer.specs.declared.token.TokenKind.TheVariants.{Name as NameToken, Word}
 use Rattle.liszt_tree.specs.declared.tree.How.TheVariants.{Set}
 use Rattle.liszt_tree.specs.Tree.{MainItem, MainAssign, Main, no_item, item}
-use Rattle.liszt_parser.specs.Grammar.{Lexeme, any, how_of, kind_of, whole_of, open_bracket, close_bracket, open_brace, close_brace, semicolon, colon, arrow, set_to, field_word, if_word, else_word, while_word, for_word, print_word, mesh_word, by_semicolon, IsItem, main_assign, IsMain, no_items, items, IsMainBlock, main_block}
-use Rattle.liszt_parser.specs.Reading.{SameHead, IsRead, Fails, HeadIs, Is, token, chosen, ◌then◌, mapped}
-use Rattle.liszt_parser.specs.Sorts.{Ends}
-use Rattle.liszt_parser.specs.Productions.{brackets, blocks, closed, main_items, mains, main_blocks, main_elses}
+use Rattle.liszt_parser.specs.Grammar.{Lexeme, lowest_rank, how_of, kind_of, mesh_set_of, open_bracket, close_bracket, open_brace, close_brace, semicolon, colon, arrow, set_to, field_word, if_word, else_word, while_word, for_word, print_word, mesh_word, by_semicolon, IsItem, main_assign, IsMain, no_items, items, IsMainBlock, main_block}
+use Rattle.liszt_parser.specs.Internal.Reading.{SameHead, IsRead, Fails, HeadIs, Is, token, token_with_value, ◌then◌, mapped_reader}
+use Rattle.liszt_parser.specs.Internal.Sorts.{Ends}
+use Rattle.liszt_parser.specs.Internal.Productions.{brackets, blocks, closed, main_items, mains, main_blocks, main_elses}
 use Rattle.liszt_parser.proofs.Sorts.{sort_end}
 use Rattle.liszt_parser.proofs.OneTree.{one_item, one_main, one_main_block, main_no_else}
 use Rattle.liszt_parser.proofs.Readers.{Lawful, Behind, Loose, Becomes, same_back, then_lawful, then_read, mapped_lawful}
-use Rattle.liszt_parser.proofs.TokenReaders.{first_fails, second_fails, free, of_kind, token_lawful, chosen_lawful, token_behind, maybe_lawful, Begins}
-use Rattle.liszt_parser.proofs.Steps.{Part, part_lawful, token_part}
+use Rattle.liszt_parser.proofs.TokenReaders.{first_fails, second_fails, free, of_kind, token_lawful, chosen_lawful, token_after, maybe_lawful, IsProgramPrefix}
+use Rattle.liszt_parser.proofs.StepLemmas.{Part, part_lawful, token_part}
 use Rattle.liszt_parser.proofs.ExpressionReaders.{one_number, number_tree, number_read}
 use Rattle.liszt_parser.proofs.ExpressionSteps.{brackets_part}
-use Rattle.liszt_parser.proofs.Heads.{ends_same, no_else_same}
+use Rattle.liszt_parser.proofs.HeadLemmas.{ends_same, no_else_same}
 use Rattle.liszt_parser.proofs.StatementReaders.{closed_lawful, how_closed, set_closed, blocks_lawful}
 
-pub kind_lawful : Lawful (chosen kind_of)
+pub kind_lawful : Lawful (token_with_value kind_of)
 kind_lawful = chosen_lawful kind_of (Word 11) Vertex refl
 
-pub kind_part : Part (chosen kind_of)
+pub kind_part : Part (token_with_value kind_of)
 kind_part = record { law = kind_lawful; free = free }
 
-pub whole_lawful : Lawful (chosen whole_of)
-whole_lawful = chosen_lawful whole_of (Word 21) Vertex refl
+pub whole_lawful : Lawful (token_with_value mesh_set_of)
+whole_lawful = chosen_lawful mesh_set_of (Word 21) Vertex refl
 
-pub whole_part : Part (chosen whole_of)
+pub whole_part : Part (token_with_value mesh_set_of)
 whole_part = record { law = whole_lawful; free = free }
 
 -- ITEMS. One of them is an assignment of a number.
@@ -42,7 +42,7 @@ items_lawful =
       tokens = of_kind NameToken ∷ of_kind set_to ∷ (one_number ++ of_kind semicolon ∷ []);
       some = MainAssign (of_kind NameToken).place [] Set number_tree;
       reads_some = λ left.
-          main_assign (of_kind NameToken) (of_kind set_to) refl refl (number_read any (of_kind semicolon ∷ left)) (by_semicolon (of_kind semicolon) refl);
+          main_assign (of_kind NameToken) (of_kind set_to) refl refl (number_read lowest_rank (of_kind semicolon ∷ left)) (by_semicolon (of_kind semicolon) refl);
     }
 
 pub mains_lawful : Lawful mains
@@ -91,7 +91,7 @@ mains_become ts n = record { into = λ us left x d. items d.1 d.2; out = out; fi
 
 -- BLOCKS
 pub close_mains : Behind mains (token close_brace)
-close_mains = token_behind close_brace (λ t left h. sort_end h)
+close_mains = token_after close_brace (λ t left h. sort_end h)
 
 pub close_loose : Loose mains (token close_brace)
 unfolding Loose
@@ -130,19 +130,19 @@ pub main_read : Lawful (token close_brace) → (ts mid left : List Lexeme) (e : 
 main_read law ts mid left e x d k = then_read mains_lawful law close_mains ts mid left e x d k
 
 -- WHAT IS LEFT to read at each step
-pub kind_set : Lawful (chosen kind_of then token set_to then closed)
+pub kind_set : Lawful (token_with_value kind_of then token set_to then closed)
 kind_set = part_lawful kind_part set_closed
 
-pub colon_kind : Lawful (token colon then chosen kind_of then token set_to then closed)
+pub colon_kind : Lawful (token colon then token_with_value kind_of then token set_to then closed)
 colon_kind = part_lawful (token_part colon) kind_set
 
-pub name_colon : Lawful (token NameToken then token colon then chosen kind_of then token set_to then closed)
+pub name_colon : Lawful (token NameToken then token colon then token_with_value kind_of then token set_to then closed)
 name_colon = part_lawful (token_part NameToken) colon_kind
 
-pub field_lawful : Lawful (token field_word then token NameToken then token colon then chosen kind_of then token set_to then closed)
+pub field_lawful : Lawful (token field_word then token NameToken then token colon then token_with_value kind_of then token set_to then closed)
 field_lawful = part_lawful (token_part field_word) name_colon
 
-pub main_assignment_lawful : Lawful (token NameToken then chosen how_of then closed)
+pub main_assignment_lawful : Lawful (token NameToken then token_with_value how_of then closed)
 main_assignment_lawful = part_lawful (token_part NameToken) how_closed
 
 pub print_lawful : Lawful (token print_word then closed)
@@ -151,8 +151,8 @@ print_lawful = part_lawful (token_part print_word) closed_lawful
 pub main_else_lawful : Lawful (token else_word then main_blocks)
 main_else_lawful = part_lawful (token_part else_word) main_blocks_lawful
 
-else_first : Begins (Is else_word) (mapped (λ x. x.1) (token else_word then main_blocks))
-unfolding Begins
+else_first : IsProgramPrefix (Is else_word) (mapped_reader (λ x. x.1) (token else_word then main_blocks))
+unfolding IsProgramPrefix
 else_first ts left x d = subst (HeadIs (Is else_word)) (sym d.1.1.0) d.1.1.1
 
 pub main_elses_lawful : Lawful main_elses
@@ -186,25 +186,25 @@ pub open_mesh : Lawful (token open_bracket then token mesh_word then token close
 open_mesh = part_lawful (token_part open_bracket) mesh_close
 
 pub whole_open :
-    Lawful (chosen whole_of then token open_bracket then token mesh_word then token close_bracket then token close_bracket then blocks)
+    Lawful (token_with_value mesh_set_of then token open_bracket then token mesh_word then token close_bracket then token close_bracket then blocks)
 whole_open = part_lawful whole_part open_mesh
 
 pub arrow_whole :
-    Lawful (token arrow then chosen whole_of then token open_bracket then token mesh_word then token close_bracket
+    Lawful (token arrow then token_with_value mesh_set_of then token open_bracket then token mesh_word then token close_bracket
     then token close_bracket then blocks)
 arrow_whole = part_lawful (token_part arrow) whole_open
 
 pub name_arrow :
-    Lawful (token NameToken then token arrow then chosen whole_of then token open_bracket then token mesh_word
+    Lawful (token NameToken then token arrow then token_with_value mesh_set_of then token open_bracket then token mesh_word
     then token close_bracket then token close_bracket then blocks)
 name_arrow = part_lawful (token_part NameToken) arrow_whole
 
 pub open_name :
-    Lawful (token open_bracket then token NameToken then token arrow then chosen whole_of then token open_bracket
+    Lawful (token open_bracket then token NameToken then token arrow then token_with_value mesh_set_of then token open_bracket
     then token mesh_word then token close_bracket then token close_bracket then blocks)
 open_name = part_lawful (token_part open_bracket) name_arrow
 
 pub comprehension_lawful :
-    Lawful (token for_word then token open_bracket then token NameToken then token arrow then chosen whole_of then token open_bracket
+    Lawful (token for_word then token open_bracket then token NameToken then token arrow then token_with_value mesh_set_of then token open_bracket
     then token mesh_word then token close_bracket then token close_bracket then blocks)
 comprehension_lawful = part_lawful (token_part for_word) open_name

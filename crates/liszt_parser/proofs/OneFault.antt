@@ -9,7 +9,8 @@ use Rattle.liszt_base.specs.declared.answers.ProgramWhat.TheVariants.{Syntax, De
 use Rattle.liszt_tree.specs.Tree.{Main}
 use Rattle.liszt_parser.specs.Depth.{depth}
 use Rattle.liszt_parser.specs.Grammar.{Lexeme, Derives}
-use Rattle.liszt_parser.specs.ParseFault.{Begins, IsProgram, IsSyntaxAt, IsShallow, IsDeepAt, place_of, fault_at, IsParseFault}
+use Rattle.liszt_parser.specs.ParseFault.{IsProgramPrefix, IsProgram, IsSyntaxAt, IsShallow, IsDeepAt, place_of, fault_at, IsParseFault}
+use Rattle.liszt_base.specs.Limits.{depth_limit}
 
 -- where one place is earlier than, the same as or later than another
 earlier_or_later : (k l : ℕ) → (k < l) ⊎ ((k ≡ l) ⊎ (l < k))
@@ -20,7 +21,7 @@ less_or_same : (k l : ℕ) → k ≤ l → (k < l) ⊎ (k ≡ l)
 less_or_same k l le = grind arith
 
 -- what begins a program up to a place begins one up to an earlier place
-begins_earlier : (ts : List Lexeme) (k l : ℕ) → k ≤ l → Begins (take l ts) → Begins (take k ts)
+begins_earlier : (ts : List Lexeme) (k l : ℕ) → k ≤ l → IsProgramPrefix (take l ts) → IsProgramPrefix (take k ts)
 begins_earlier ts k l le b =
     let parted : take l ts ++ b.0 ≡ take k ts ++ (drop k (take l ts) ++ b.0) =
     ap (λ front. front ++ b.0) (sym (take-append-drop k (take l ts)) ∙ ap (λ front. front ++ drop k (take l ts)) (take-take k l ts le))
@@ -28,11 +29,11 @@ begins_earlier ts k l le b =
     (drop k (take l ts) ++ b.0, b.1, subst (λ (all : List Lexeme). Derives all b.1) parted b.2)
 
 -- each front of a program begins one
-program_begins : (ts : List Lexeme) (k : ℕ) → IsProgram ts → Begins (take k ts)
+program_begins : (ts : List Lexeme) (k : ℕ) → IsProgram ts → IsProgramPrefix (take k ts)
 program_begins ts k p = (drop k ts, p.0, subst (λ (all : List Lexeme). Derives all p.0) (sym (take-append-drop k ts)) p.1)
 
 -- no depth is above 64 and at most 64
-too_deep : (d : ℕ) → 64 < d → d ≤ 64 → ⊥
+too_deep : (d : ℕ) → depth_limit < d → d ≤ depth_limit → ⊥
 too_deep d more less = omega arith
 
 -- where all is shallow up to a place nothing before it is deep
@@ -40,8 +41,8 @@ not_deep_before : (ts : List Lexeme) (k l : ℕ) → IsDeepAt ts k → IsShallow
 not_deep_before ts k l deep shallow lt = too_deep (depth (take (k + 1) ts)) deep.deep (shallow k lt deep.within)
 
 -- where Syntax stands, no program goes on
-no_program_goes_on : (ts : List Lexeme) (k n : ℕ) → IsSyntaxAt ts k → k < n → n ≤ length ts → Begins (take n ts) → ⊥
-no_program_goes_on ts k n s lt within b = s.token (omega arith) (begins_earlier ts (k + 1) n (omega arith) b)
+no_program_continues : (ts : List Lexeme) (k n : ℕ) → IsSyntaxAt ts k → k < n → n ≤ length ts → IsProgramPrefix (take n ts) → ⊥
+no_program_continues ts k n s lt within b = s.token (omega arith) (begins_earlier ts (k + 1) n (omega arith) b)
 
 -- where Syntax stands is no program
 no_program : (ts : List Lexeme) (k : ℕ) → IsSyntaxAt ts k → IsProgram ts → ⊥
@@ -54,9 +55,9 @@ no_program ts k s p = go (less_or_same k (length ts) s.within) where
 same_syntax : (ts : List Lexeme) (k l : ℕ) → IsSyntaxAt ts k → IsSyntaxAt ts l → k ≡ l
 same_syntax ts k l s t = go (earlier_or_later k l) where
   go : (k < l) ⊎ ((k ≡ l) ⊎ (l < k)) → k ≡ l
-  go (inl lt) = absurd (no_program_goes_on ts k l s lt t.within t.before)
+  go (inl lt) = absurd (no_program_continues ts k l s lt t.within t.before)
   go (inr (inl e)) = e
-  go (inr (inr lt)) = absurd (no_program_goes_on ts l k t lt s.within s.before)
+  go (inr (inr lt)) = absurd (no_program_continues ts l k t lt s.within s.before)
 
 -- Deep stands at one place
 same_deep : (ts : List Lexeme) (k l : ℕ) → IsDeepAt ts k → IsDeepAt ts l → k ≡ l
@@ -71,8 +72,8 @@ not_both : (ts : List Lexeme) (k l : ℕ) → IsSyntaxAt ts k → IsShallow ts k
 not_both ts k l s shallow deep = go (earlier_or_later l k) where
   go : (l < k) ⊎ ((l ≡ k) ⊎ (k < l)) → ⊥
   go (inl lt) = not_deep_before ts l k deep shallow lt
-  go (inr (inl e)) = no_program_goes_on ts k (l + 1) s (omega arith) (omega (arith, deep.within)) deep.begins
-  go (inr (inr lt)) = no_program_goes_on ts k (l + 1) s (omega arith) (omega (arith, deep.within)) deep.begins
+  go (inr (inl e)) = no_program_continues ts k (l + 1) s (omega arith) (omega (arith, deep.within)) deep.begins
+  go (inr (inr lt)) = no_program_continues ts k (l + 1) s (omega arith) (omega (arith, deep.within)) deep.begins
 
 -- the same kind of fault at one place
 same_fault : (what : ProgramWhat) (ts : List Lexeme) (ending : Place) (k l : ℕ) (fault other : ProgramFault) → k ≡ l

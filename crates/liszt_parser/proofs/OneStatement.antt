@@ -5,8 +5,8 @@ use Rattle.liszt_lexer.specs.declared.token.TokenKind.{TokenKind}
 use Rattle.liszt_lexer.specs.declared.token.TokenKind.TheVariants.{Name as NameToken}
 use Rattle.liszt_tree.specs.declared.tree.How.{How}
 use Rattle.liszt_tree.specs.Tree.{Expression, Statement, Var, Val, Assign, If, While, For, Body, no_statement, statement}
-use Rattle.liszt_parser.specs.Grammar.{Lexeme, any, how_of, set_of, open_bracket, semicolon, close_brace, var_word, val_word, if_word, else_word, while_word, for_word, IsExpression, IsBracketed, Closes, by_semicolon, by_brace, by_end, IsDeclared, is_declared, IsTarget, no_target, target, IsStatement, var, val, assign, if, while, for, IsBody, no_statements, statements, IsBlock, block, IsElse, no_else, else}
-use Rattle.liszt_parser.specs.Sorts.{Ends, NoElse, Sort, a_for, a_name, a_val, a_var, a_while, an_else, an_end, an_if, head_sort, sort_of}
+use Rattle.liszt_parser.specs.Grammar.{Lexeme, lowest_rank, how_of, set_of, open_bracket, semicolon, close_brace, var_word, val_word, if_word, else_word, while_word, for_word, IsExpression, IsBracketed, Closes, by_semicolon, by_brace, by_end, IsDeclared, is_declared, IsTarget, no_target, target, IsStatement, var, val, assign, if, while, for, IsBody, no_statements, statements, IsBlock, block, IsElse, no_else, else}
+use Rattle.liszt_parser.specs.Internal.Sorts.{Ends, NoElse, Sort, a_for, a_name, a_val, a_var, a_while, an_else, an_end, an_if, head_sort, sort_of}
 use Rattle.liszt_parser.proofs.Sorts.{sort_name, sort_var, sort_val, sort_if, sort_else, sort_while, sort_for, sort_end, clash, closes_stops}
 use Rattle.liszt_parser.proofs.OneExpression.{one_expression, one_bracketed, bracket_opens}
 
@@ -43,8 +43,8 @@ one_closing (by_brace t h) (by_brace t' h') = refl
 one_closing by_end by_end = refl
 
 -- tokens begin with one expression and what closes it
-pub one_closed : {ts mid mid' left left' : List Lexeme} {e e' : Expression} → IsExpression any ts e mid → Closes mid left
-    → IsExpression any ts e' mid' → Closes mid' left' → (e ≡ e') × (left ≡ left')
+pub one_closed : {ts mid mid' left left' : List Lexeme} {e e' : Expression} → IsExpression lowest_rank ts e mid → Closes mid left
+    → IsExpression lowest_rank ts e' mid' → Closes mid' left' → (e ≡ e') × (left ≡ left')
 one_closed {mid' = mid'} {left} {e' = e'} d c d' c' =
     let a = one_expression d (closes_stops c) e' mid' d' (closes_stops c') in
     (a.0, one_closing (subst (λ m. Closes m left) a.1 c) c')
@@ -142,13 +142,13 @@ val_agrees d s' left' (val d') no_else' =
 val_agrees d s' left' d' no_else' = clash a_val (statement_sort d') (declared_sort d ∙ sort_val refl) (statement_begins d') refl
 
 assign_agrees : {ts us mid left : List Lexeme} {to : Option Expression} {e : Expression} {how : How} (n h : Lexeme) → n.kind ≡ NameToken
-    → IsTarget ts to (h ∷ us) → how_of h.kind ≡ Some how → IsExpression any us e mid → Closes mid left
+    → IsTarget ts to (h ∷ us) → how_of h.kind ≡ Some how → IsExpression lowest_rank us e mid → Closes mid left
     → StatementAgrees (n ∷ ts) (Assign n.place n.bytes to how e) left
 assign_agrees {us} {how} n h hn i is d c s' left' (assign {ts' = us'} {mid = m} {e = e'} {how = how'} n' h' hn' i' is' d' c') f =
     let a = one_target (how_no_bracket h us how is) (how_no_bracket h' us' how' is') i i' in
     let heads : h ≡ h' = cc in
     let hows : how ≡ how' = same_some is (ap (λ (t : Lexeme). how_of t.kind) heads ∙ is') in
-    let b = one_closed d c (subst (λ ts. IsExpression any ts e' m) (sym (same_tail a.1)) d') c' in
+    let b = one_closed d c (subst (λ ts. IsExpression lowest_rank ts e' m) (sym (same_tail a.1)) d') c' in
     (same₃ (Assign n.place n.bytes) a.0 hows b.0, b.1)
 assign_agrees n h hn i is d c s' left' d' no_else' = clash a_name (statement_sort d') (sort_name hn) (statement_begins d') refl
 

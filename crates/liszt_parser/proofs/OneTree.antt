@@ -4,8 +4,8 @@ use Rattle.liszt_base.specs.declared.elements.Kind.{Kind}
 use Rattle.liszt_lexer.specs.declared.token.TokenKind.TheVariants.{Name as NameToken}
 use Rattle.liszt_tree.specs.declared.tree.How.{How}
 use Rattle.liszt_tree.specs.Tree.{Expression, Body, MainItem, MainField, MainVar, MainAssign, MainIf, MainWhile, MainFor, Print, Main, no_item, item}
-use Rattle.liszt_parser.specs.Grammar.{Lexeme, any, how_of, kind_of, whole_of, field_word, var_word, if_word, else_word, while_word, for_word, print_word, IsExpression, IsBracketed, Closes, IsDeclared, IsItem, main_field, main_var, main_assign, main_if, main_while, main_for, print, IsMain, no_items, items, IsMainBlock, main_block, IsMainElse, no_main_else, main_else, Derives}
-use Rattle.liszt_parser.specs.Sorts.{Ends, NoElse, Sort, a_field, a_for, a_name, a_print, a_var, a_while, an_else, an_end, an_if, head_sort}
+use Rattle.liszt_parser.specs.Grammar.{Lexeme, lowest_rank, how_of, kind_of, mesh_set_of, field_word, var_word, if_word, else_word, while_word, for_word, print_word, IsExpression, IsBracketed, Closes, IsDeclared, IsItem, main_field, main_var, main_assign, main_if, main_while, main_for, print, IsMain, no_items, items, IsMainBlock, main_block, IsMainElse, no_main_else, main_else, Derives}
+use Rattle.liszt_parser.specs.Internal.Sorts.{Ends, NoElse, Sort, a_field, a_for, a_name, a_print, a_var, a_while, an_else, an_end, an_if, head_sort}
 use Rattle.liszt_parser.proofs.Sorts.{sort_name, sort_field, sort_var, sort_if, sort_else, sort_while, sort_for, sort_print, sort_end, clash}
 use Rattle.liszt_parser.proofs.OneExpression.{one_bracketed}
 use Rattle.liszt_parser.proofs.OneStatement.{same₂, same₃, same₄, same_tail, same_some, one_closed, one_declared, declared_sort, ends_no_else, BlockAgrees, one_block}
@@ -61,7 +61,7 @@ MainElseAgrees ts m has left =
 -- an item agrees where its parts do: no other begins with a token of its sort
 field_agrees : {ts mid left : List Lexeme} {e : Expression} {kind : Kind} (w n d k s : Lexeme) → w.kind ≡ field_word
     → kind_of k.kind ≡ Some kind
-    → IsExpression any ts e mid → Closes mid left → ItemAgrees (w ∷ n ∷ d ∷ k ∷ s ∷ ts) (MainField w.place n.bytes n.place kind e) left
+    → IsExpression lowest_rank ts e mid → Closes mid left → ItemAgrees (w ∷ n ∷ d ∷ k ∷ s ∷ ts) (MainField w.place n.bytes n.place kind e) left
 field_agrees w n d k s h hk e c i' left' (main_field w' n' d' k' s' hw' hn' hd' hk' hs' e' c') f' =
     let a = one_closed e c e' c' in
     (same₂ (MainField w.place n.bytes n.place) (same_some hk hk') a.0, a.1)
@@ -74,7 +74,7 @@ var_agrees d i' left' (main_var d') f' =
 var_agrees d i' left' x f' = clash a_var (item_sort x) (declared_sort d ∙ sort_var refl) (item_begins x) refl
 
 assign_agrees : {ts mid left : List Lexeme} {e : Expression} {how : How} (n h : Lexeme) → n.kind ≡ NameToken → how_of h.kind ≡ Some how
-    → IsExpression any ts e mid → Closes mid left → ItemAgrees (n ∷ h ∷ ts) (MainAssign n.place n.bytes how e) left
+    → IsExpression lowest_rank ts e mid → Closes mid left → ItemAgrees (n ∷ h ∷ ts) (MainAssign n.place n.bytes how e) left
 assign_agrees n h hn is d c i' left' (main_assign n' h' hn' is' d' c') f' =
     let a = one_closed d c d' c' in
     (same₂ (MainAssign n.place n.bytes) (same_some is is') a.0, a.1)
@@ -99,14 +99,14 @@ while_agrees w h b one i' left' (main_while {mid = n} {e = e'} {body = m'} w' h'
 while_agrees w h b one i' left' x f' = clash a_while (item_sort x) (sort_while h) (item_begins x) refl
 
 for_agrees : {ts left : List Lexeme} {body : Body} {kind : Kind} (w o n a k p m q c : Lexeme) → w.kind ≡ for_word
-    → whole_of k.kind ≡ Some kind → BlockAgrees ts body left
+    → mesh_set_of k.kind ≡ Some kind → BlockAgrees ts body left
     → ItemAgrees (w ∷ o ∷ n ∷ a ∷ k ∷ p ∷ m ∷ q ∷ c ∷ ts) (MainFor w.place n.bytes n.place kind body) left
 for_agrees w o n a k p m q c h hk one i' left' (main_for {body = b'} w' o' n' a' k' p' m' q' c' hw' ho' hn' ha' hk' hp' hm' hq' hc' d') f' =
     let b = one b' left' d' in
     (same₂ (MainFor w.place n.bytes n.place) (same_some hk hk') b.0, b.1)
 for_agrees w o n a k p m q c h hk one i' left' x f' = clash a_for (item_sort x) (sort_for h) (item_begins x) refl
 
-print_agrees : {ts mid left : List Lexeme} {e : Expression} (w : Lexeme) → w.kind ≡ print_word → IsExpression any ts e mid → Closes mid left
+print_agrees : {ts mid left : List Lexeme} {e : Expression} (w : Lexeme) → w.kind ≡ print_word → IsExpression lowest_rank ts e mid → Closes mid left
     → ItemAgrees (w ∷ ts) (Print w.place e) left
 print_agrees w h d c i' left' (print w' h' d' c') f' = let a = one_closed d c d' c' in (ap (Print w.place) a.0, a.1)
 print_agrees w h d c i' left' x f' = clash a_print (item_sort x) (sort_print h) (item_begins x) refl

@@ -8,22 +8,22 @@ use Rattle.liszt_base.specs.declared.answers.ProgramWhat.TheVariants.{Syntax, De
 use Rattle.liszt_base.specs.declared.answers.Refused.{Refused}
 use Rattle.liszt_lexer.specs.Lexer.{tokens_of, IsSpelledIn}
 use Rattle.liszt_lexer.specs.declared.token.Token.{Token}
-use Rattle.liszt_lexer.proofs.Findings.{all_tokens_spelled}
+use Rattle.liszt_lexer.proofs.FindingLemmas.{all_tokens_spelled}
 use Rattle.liszt_tree.specs.declared.tree.Program.{Program}
 use Rattle.liszt_tree.specs.Tree.{Main}
 use Rattle.liszt_parser.specs.Grammar.{Lexeme, lexeme, lexemes, Derives}
-use Rattle.liszt_parser.specs.Nesting.{IsFirstDeep}
-use Rattle.liszt_parser.specs.Lies.{Lies}
-use Rattle.liszt_parser.specs.Parsed.{IsParsed}
-use Rattle.liszt_parser.specs.ParseFault.{Begins, IsSyntaxAt, IsShallow, place_of, fault_at, IsParseFault}
+use Rattle.liszt_parser.specs.Internal.Nesting.{IsFirstDeep}
+use Rattle.liszt_parser.specs.Internal.TokenBounds.{IsInText}
+use Rattle.liszt_parser.specs.Internal.ProgramParsing.{IsParsed}
+use Rattle.liszt_parser.specs.ParseFault.{IsProgramPrefix, IsSyntaxAt, IsShallow, place_of, fault_at, IsParseFault}
 
 -- SHALLOW up to an earlier place
 shallow_before : (ts : List Lexeme) (place up_to : ℕ) → place ≤ up_to → IsShallow ts up_to → IsShallow ts place
 shallow_before ts place up_to le shallow k lt within = shallow k (omega arith) within
 
-pub syntax_alone : (ts : List Lexeme) (ending : Place) (place : ℕ) → IsShallow ts (length ts) → IsSyntaxAt ts place
+pub syntax_primary : (ts : List Lexeme) (ending : Place) (place : ℕ) → IsShallow ts (length ts) → IsSyntaxAt ts place
     → IsParseFault ts ending (Some (fault_at Syntax (place_of ts ending place)))
-syntax_alone ts ending place shallow s = (place, inl (s, shallow_before ts place (length ts) s.within shallow, refl))
+syntax_primary ts ending place shallow s = (place, inl (s, shallow_before ts place (length ts) s.within shallow, refl))
 
 -- THE FRONT up to the first token that is too deep. Syntax in it is Syntax in all.
 front_length : (ts : List Lexeme) (deep : ℕ) → deep < length ts → length (take (deep + 1) ts) ≡ deep + 1
@@ -34,8 +34,8 @@ syntax_in_all ts deep place lt le s =
     let long = front_length ts deep lt in
     record {
       within = omega arith;
-      before = subst Begins (take-take place (deep + 1) ts (omega arith)) s.before;
-      token = λ _ b. s.token (omega arith) (subst Begins (sym (take-take (place + 1) (deep + 1) ts (omega arith))) b);
+      before = subst IsProgramPrefix (take-take place (deep + 1) ts (omega arith)) s.before;
+      token = λ _ b. s.token (omega arith) (subst IsProgramPrefix (sym (take-take (place + 1) (deep + 1) ts (omega arith))) b);
       «end» = λ e. absurd (omega arith);
     }
 
@@ -45,7 +45,7 @@ syntax_first ts ending deep place first le s =
     (place, inl (syntax_in_all ts deep place first.1 le s, shallow_before ts place deep le first.0, refl))
 
 -- and where a program begins with the front it is Deep
-deep_by : (ts : List Lexeme) (ending : Place) (deep : ℕ) → IsFirstDeep ts (Some deep) → Begins (take (deep + 1) ts)
+deep_by : (ts : List Lexeme) (ending : Place) (deep : ℕ) → IsFirstDeep ts (Some deep) → IsProgramPrefix (take (deep + 1) ts)
     → IsParseFault ts ending (Some (fault_at Deep (place_of ts ending deep)))
 deep_by ts ending deep first begins =
     (deep, inr (record { within = first.1; deep = first.2; shallow = first.0; begins = begins }, refl))
@@ -61,26 +61,26 @@ deep_at_end ts ending deep place first lt s =
     let long = front_length ts deep first.1 in
     let within = s.within in
     let is : place ≡ deep + 1 = omega arith in
-    deep_by ts ending deep first (subst Begins (ap (λ n. take n (take (deep + 1) ts)) is ∙ take-take (deep + 1) (deep + 1) ts (omega arith)) s.before)
+    deep_by ts ending deep first (subst IsProgramPrefix (ap (λ n. take n (take (deep + 1) ts)) is ∙ take-take (deep + 1) (deep + 1) ts (omega arith)) s.before)
 
 -- THE TOKENS of a text lie in it, and so do those of a front; the lexemes of a front are a front of the lexemes.
-abbrev lie_by : (text : List ℕ) (tokens : List Token) → AllByRecursion (IsSpelledIn text) tokens → AllByRecursion (Lies text) tokens
+abbrev lie_by : (text : List ℕ) (tokens : List Token) → AllByRecursion (IsSpelledIn text) tokens → AllByRecursion (IsInText text) tokens
 lie_by text [] h = tt
 lie_by text (t ∷ tokens) h =
     let start = h.0.0 in
     let inside = h.0.1 in
     ((omega arith, inside), lie_by text tokens h.1)
 
-pub all_lie : (text : List ℕ) (tokens : List Token) → tokens_of text ≡ Ok tokens → AllByRecursion (Lies text) tokens
-all_lie text tokens e = lie_by text tokens (all_tokens_spelled text tokens e)
+pub all_in_text : (text : List ℕ) (tokens : List Token) → tokens_of text ≡ Ok tokens → AllByRecursion (IsInText text) tokens
+all_in_text text tokens e = lie_by text tokens (all_tokens_spelled text tokens e)
 
 each_in_front : {A : Type 0} (P : A → Type 0) (n : ℕ) (xs : List A) → AllByRecursion P xs → AllByRecursion P (take n xs)
 each_in_front P zero xs h = tt
 each_in_front P (suc n) [] h = tt
 each_in_front P (suc n) (x ∷ xs) h = (h.0, each_in_front P n xs h.1)
 
-pub front_lies : (text : List ℕ) (tokens : List Token) (n : ℕ) → tokens_of text ≡ Ok tokens → AllByRecursion (Lies text) (take n tokens)
-front_lies text tokens n e = each_in_front (Lies text) n tokens (all_lie text tokens e)
+pub front_in_text : (text : List ℕ) (tokens : List Token) (n : ℕ) → tokens_of text ≡ Ok tokens → AllByRecursion (IsInText text) (take n tokens)
+front_in_text text tokens n e = each_in_front (IsInText text) n tokens (all_in_text text tokens e)
 
 pub front_reads : (text : List ℕ) (tokens : List Token) (n : ℕ) (result : Result Program (Refused ℕ))
     → IsParsed (lexemes text (take n tokens)) result → IsParsed (take n (lexemes text tokens)) result

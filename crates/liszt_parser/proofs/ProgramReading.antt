@@ -5,11 +5,11 @@ use Rattle.liszt_base.specs.declared.answers.Refused.{Refused}
 use Rattle.liszt_base.specs.declared.answers.Refused.TheVariants.{Fault, NoMemory}
 use Rattle.liszt_tree.specs.Tree.{Main}
 use Rattle.liszt_parser.specs.Grammar.{Lexeme, IsMain, Derives}
-use Rattle.liszt_parser.specs.ParseFault.{Begins, IsProgram, IsSyntaxAt}
-use Rattle.liszt_parser.specs.Parsed.{IsParsed}
-use Rattle.liszt_parser.specs.Productions.{mains}
-use Rattle.liszt_parser.specs.Reading.{SameHead, IsRead, Fails}
-use Rattle.liszt_parser.proofs.Heads.{ends_same}
+use Rattle.liszt_parser.specs.ParseFault.{IsProgramPrefix, IsProgram, IsSyntaxAt}
+use Rattle.liszt_parser.specs.Internal.ProgramParsing.{IsParsed}
+use Rattle.liszt_parser.specs.Internal.Productions.{mains}
+use Rattle.liszt_parser.specs.Internal.Reading.{SameHead, IsRead, Fails}
+use Rattle.liszt_parser.proofs.HeadLemmas.{ends_same}
 use Rattle.liszt_parser.proofs.OneTree.{one_main}
 
 -- FRONTS of a list
@@ -25,10 +25,10 @@ front_length : {A : Type 0} (ts front : List A) (place : ℕ) → place ≤ leng
 front_length ts front place within e = omega (arith, ap length e, length-append front (drop place ts), length-drop place ts)
 
 -- where the tokens before a place begin a program, and none goes on there
-syntax_from : (ts front at : List Lexeme) (place : ℕ) → place ≤ length ts → drop place ts ≡ at → ts ≡ front ++ at → Begins front
+syntax_from : (ts front at : List Lexeme) (place : ℕ) → place ≤ length ts → drop place ts ≡ at → ts ≡ front ++ at → IsProgramPrefix front
     → ((other : List Lexeme) (tree : Main) → SameHead at other → Derives (front ++ other) tree → ⊥) → IsSyntaxAt ts place
 syntax_from ts front at place within here e begins ends =
-    record { within = within; before = subst Begins before begins; token = λ l b. token at here e ends l b; «end» = λ l p. at_end at here e ends l p }
+    record { within = within; before = subst IsProgramPrefix before begins; token = λ l b. token at here e ends l b; «end» = λ l p. at_end at here e ends l p }
   where
     long : length front ≡ place
     long = front_length ts front place within (e ∙ ap (λ z. front ++ z) (sym here))
@@ -38,13 +38,13 @@ syntax_from ts front at place within here e begins ends =
 
     token : (at : List Lexeme) → drop place ts ≡ at → ts ≡ front ++ at
         → ((other : List Lexeme) (tree : Main) → SameHead at other → Derives (front ++ other) tree → ⊥) → place < length ts
-        → Begins (take (place + 1) ts) → ⊥
+        → IsProgramPrefix (take (place + 1) ts) → ⊥
     token [] here e ends l b = let none = ap length here in omega (arith, length-drop place ts)
     token (t ∷ us) here e ends l b =
-        let taken : take (place + 1) ts ≡ front ++ t ∷ [] =
+        let operands_step : take (place + 1) ts ≡ front ++ t ∷ [] =
         ap (λ n. take n ts) (add-one place ∙ ap suc (sym long)) ∙ ap (λ z. take (suc (length front)) z) e ∙ take_one_more front us t in
         ends (t ∷ b.0) b.1 refl
-        (subst (λ z. Derives z b.1) (ap (λ z. z ++ b.0) taken ∙ append_assoc front (t ∷ []) b.0) b.2)
+        (subst (λ z. Derives z b.1) (ap (λ z. z ++ b.0) operands_step ∙ append_assoc front (t ∷ []) b.0) b.2)
 
     at_end : (at : List Lexeme) → drop place ts ≡ at → ts ≡ front ++ at
         → ((other : List Lexeme) (tree : Main) → SameHead at other → Derives (front ++ other) tree → ⊥) → place ≡ length ts
@@ -55,7 +55,7 @@ syntax_from ts front at place within here e begins ends =
 pub program_fails : (ts : List Lexeme) (refused : Refused ℕ) → Fails mains ts 0 refused → IsParsed ts (Err refused)
 program_fails ts NoMemory h = tt
 program_fails ts (Fault place) h =
-    syntax_from ts h.1.front (drop place ts) place h.0 refl h.1.parts (h.1.more ++ [], h.1.whole, h.1.goes_on [])
+    syntax_from ts h.1.front (drop place ts) place h.0 refl h.1.parts (h.1.more ++ [], h.1.whole, h.1.continues [])
     (λ other tree same d. h.1.ends_here other [] tree same d refl)
 
 pub program_read : (ts at : List Lexeme) (tree : Main) → at ≡ [] → IsRead mains ts tree at → Derives ts tree

@@ -2,7 +2,7 @@
 use Rattle.std.proofs.Common.{◌≡◌, List, [], ◌∷◌, ◌++◌, refl, sym, ap, subst, ◌∙◌, append_assoc}
 use Rattle.liszt_lexer.specs.declared.token.TokenKind.{TokenKind}
 use Rattle.liszt_parser.specs.Grammar.{Lexeme}
-use Rattle.liszt_parser.specs.Reading.{Reader, SameHead, IsRead, IsStuck, ◌then◌, mapped, HeadIs}
+use Rattle.liszt_parser.specs.Internal.Reading.{Reader, SameHead, IsRead, IsStuck, ◌then◌, mapped_reader, HeadIs}
 
 -- HEADS
 pub same_self : (ts : List Lexeme) → SameHead ts ts
@@ -15,9 +15,9 @@ same_back (t ∷ ts) (u ∷ us) h = sym h
 same_back [] (u ∷ us) h = absurd h
 same_back (t ∷ ts) [] h = absurd h
 
-pub same_behind : (front at other : List Lexeme) → SameHead at other → SameHead (front ++ at) (front ++ other)
-same_behind [] at other h = h
-same_behind (t ∷ front) at other h = refl
+pub same_after : (front at other : List Lexeme) → SameHead at other → SameHead (front ++ at) (front ++ other)
+same_after [] at other h = h
+same_after (t ∷ front) at other h = refl
 
 pub head_by : (is : TokenKind → Type 0) (ts other : List Lexeme) → SameHead ts other → HeadIs is ts → HeadIs is other
 head_by is [] [] h k = k
@@ -57,8 +57,8 @@ pub record Free {A : Type 0} (r : Reader A) : Type 0 where
   pub stops : (left : List Lexeme) → r.stops left
   pub fits : (left other : List Lexeme) → r.fits left other
 
-pub free_behind : {A B : Type 0} {r : Reader A} {s : Reader B} → Free r → Behind r s
-free_behind f = record { stops = λ mid left x h k. f.stops mid; fits = λ mid other x h k. f.fits mid other }
+pub free_after : {A B : Type 0} {r : Reader A} {s : Reader B} → Free r → Behind r s
+free_after f = record { stops = λ mid left x h k. f.stops mid; fits = λ mid other x h k. f.fits mid other }
 
 pub free_loose : {A B : Type 0} (r : Reader A) (s : Reader B) → Free r → Loose r s
 unfolding Loose
@@ -103,9 +103,9 @@ then_first {A} {B} {r} {s} law b ts at one =
       parts = one.parts;
       more = one.more ++ law.tokens;
       whole = (one.whole, law.some);
-      goes_on = λ left. (
+      continues = λ left. (
         law.tokens ++ left,
-        subst (λ m. r.reads (one.front ++ m) one.whole (law.tokens ++ left)) (sym (append_assoc one.more law.tokens left)) (one.goes_on (law.tokens ++ left)),
+        subst (λ m. r.reads (one.front ++ m) one.whole (law.tokens ++ left)) (sym (append_assoc one.more law.tokens left)) (one.continues (law.tokens ++ left)),
         law.reads_some left,
       );
       ends_here = λ other left e h d stop. one.ends_here other d.0 e.0 h d.1 (b.stops d.0 left e.1 d.2 stop);
@@ -115,7 +115,7 @@ then_first {A} {B} {r} {s} law b ts at one =
 read_before : {A : Type 0} (r : Reader A) → Lawful r → (mid front at other : List Lexeme) → mid ≡ front ++ at → SameHead at other
     → r.fits mid (front ++ other)
 read_before r law mid front at other e h =
-    subst (λ m. r.fits m (front ++ other)) (sym e) (law.fits_head (front ++ at) (front ++ other) (same_behind front at other h))
+    subst (λ m. r.fits m (front ++ other)) (sym e) (law.fits_head (front ++ at) (front ++ other) (same_after front at other h))
 
 pub then_second : {A B : Type 0} {r : Reader A} {s : Reader B} → Lawful r → Behind r s → Loose r s → (ts mid at : List Lexeme) (e : A)
     → IsRead r ts e mid → IsStuck s mid at → IsStuck (r then s) ts at
@@ -126,7 +126,7 @@ then_second {A} {B} {r} {s} law b loose ts mid at e one two =
       parts = one.parts ∙ ap (λ m. one.front ++ m) two.parts ∙ sym (append_assoc one.front two.front at);
       more = two.more;
       whole = (e, two.whole);
-      goes_on = λ left. goes left;
+      continues = λ left. goes left;
       ends_here = λ other left x h d stop. ends other left x h d.0 d.1 d.2 stop;
     }
   where
@@ -142,9 +142,9 @@ then_second {A} {B} {r} {s} law b loose ts mid at e one two =
       two.front ++ (two.more ++ left),
       subst (λ m. r.reads m e (two.front ++ (two.more ++ left))) (sym (append_assoc one.front two.front (two.more ++ left)))
           (one.reads_on (two.front ++ (two.more ++ left))
-          (apart two.front two.parts (two.more ++ left) left (two.goes_on left)
+          (apart two.front two.parts (two.more ++ left) left (two.continues left)
           (λ x left d stop. two.ends_here at left x (same_self at) d stop))),
-      two.goes_on left,
+      two.continues left,
     )
 
     ends : (other left : List Lexeme) (x : A × B) → SameHead at other → (us : List Lexeme)
@@ -153,7 +153,7 @@ then_second {A} {B} {r} {s} law b loose ts mid at e one two =
         let mine = one.reads_on (two.front ++ other) (read_before r law mid two.front at other two.parts h) in
         let theirs : r.reads (one.front ++ (two.front ++ other)) x.0 us = subst (λ m. r.reads m x.0 us) (append_assoc one.front two.front other) d in
         let stops : r.stops (two.front ++ other) =
-        law.by_head (two.front ++ at) (two.front ++ other) (same_behind two.front at other h) (subst r.stops two.parts one.stops) in
+        law.by_head (two.front ++ at) (two.front ++ other) (same_after two.front at other h) (subst r.stops two.parts one.stops) in
         let same = law.one (one.front ++ (two.front ++ other)) (two.front ++ other) us e x.0 mine stops theirs (b.stops us left x.1 d' stop) in
         two.ends_here other left x.1 h (subst (λ m. s.reads m x.1 left) (sym same.1) d') stop
 
@@ -181,22 +181,22 @@ then_lawful {A} {B} {r} {s} law law' b =
 
 -- READ AS SOMETHING ELSE
 pub mapped_read : {A B : Type 0} {s : Reader B} (f : B → A) (ts left : List Lexeme) (x : B) (e : A) → e ≡ f x → IsRead s ts x left
-    → IsRead (mapped f s) ts e left
+    → IsRead (mapped_reader f s) ts e left
 mapped_read f ts left x e is d =
     record { front = d.front; parts = d.parts; reads_on = λ other h. (x, d.reads_on other h, is); stops = d.stops }
 
-pub mapped_stuck : {A B : Type 0} {s : Reader B} (f : B → A) (ts at : List Lexeme) → IsStuck s ts at → IsStuck (mapped f s) ts at
+pub mapped_stuck : {A B : Type 0} {s : Reader B} (f : B → A) (ts at : List Lexeme) → IsStuck s ts at → IsStuck (mapped_reader f s) ts at
 mapped_stuck f ts at d =
     record {
       front = d.front;
       parts = d.parts;
       more = d.more;
       whole = f d.whole;
-      goes_on = λ left. (d.whole, d.goes_on left, refl);
+      continues = λ left. (d.whole, d.continues left, refl);
       ends_here = λ other left e h k stop. d.ends_here other left k.0 h k.1 stop;
     }
 
-pub mapped_lawful : {A B : Type 0} {s : Reader B} (f : B → A) → Lawful s → Lawful (mapped f s)
+pub mapped_lawful : {A B : Type 0} {s : Reader B} (f : B → A) → Lawful s → Lawful (mapped_reader f s)
 mapped_lawful {A} {B} {s} f law =
     record {
       one = λ ts left left' e e' d stop d' stop'.
@@ -221,7 +221,7 @@ becomes_read ts left x b d stop =
 
 -- what begins as the tokens do, for the tokens before the place are the same
 begins_same : (ts front at other : List Lexeme) → ts ≡ front ++ at → SameHead at other → SameHead ts (front ++ other)
-begins_same ts front at other e h = subst (λ m. SameHead m (front ++ other)) (sym e) (same_behind front at other h)
+begins_same ts front at other e h = subst (λ m. SameHead m (front ++ other)) (sym e) (same_after front at other h)
 
 pub becomes_stuck : {A B : Type 0} {r : Reader A} {s : Reader B} {f : B → A} (ts at : List Lexeme) → Becomes r s f ts → IsStuck s ts at
     → IsStuck r ts at
@@ -231,7 +231,7 @@ becomes_stuck {A} {B} {r} {s} {f} ts at b d =
       parts = d.parts;
       more = d.more;
       whole = f d.whole;
-      goes_on = λ left. b.into (d.front ++ (d.more ++ left)) left d.whole (d.goes_on left);
+      continues = λ left. b.into (d.front ++ (d.more ++ left)) left d.whole (d.continues left);
       ends_here = λ other left e h k stop.
           let x = b.out (d.front ++ other) left e (begins_same ts d.front at other d.parts h) k stop in
           d.ends_here other left x.0 h x.1 x.2;
@@ -246,7 +246,7 @@ becomes_stopped {A} {B} {r} {s} {f} ts left x b law law' d fits not =
       parts = d.parts;
       more = [];
       whole = f x;
-      goes_on = λ left. b.into (d.front ++ left) left x (d.reads_on left (fits left));
+      continues = λ left. b.into (d.front ++ left) left x (d.reads_on left (fits left));
       ends_here = λ other left e h k stop. ends other left e h k stop;
     }
   where
@@ -265,6 +265,6 @@ stuck_at_once r ts law h =
       parts = refl;
       more = law.tokens;
       whole = law.some;
-      goes_on = law.reads_some;
+      continues = law.reads_some;
       ends_here = h;
     }

@@ -9,8 +9,8 @@ use Rattle.liszt_base.specs.declared.answers.ProgramFault.{ProgramFault}
 use Rattle.liszt_base.specs.declared.answers.ProgramWhat.TheVariants.{Big}
 use Rattle.liszt_lexer.specs.declared.token.Token.{Token}
 use Rattle.liszt_lexer.specs.Lexer.{tokens_of, bytes_of, IsSpelledIn}
-use Rattle.liszt_lexer.proofs.Findings.{all_tokens_spelled}
-use Rattle.liszt_lexer.proofs.Spellings.{spelling, ComesTo, comes}
+use Rattle.liszt_lexer.proofs.FindingLemmas.{all_tokens_spelled}
+use Rattle.liszt_lexer.proofs.SpellingLemmas.{spelling, ResultsIn, results_in}
 use Rattle.liszt_tree.specs.Canonical.{canonical}
 use Rattle.liszt_tree.specs.Tree.{Main, Same, nowhere}
 use Rattle.liszt_parser.specs.Depth.{depth}
@@ -23,6 +23,7 @@ use Rattle.liszt_parser.proofs.RoundTripWords.{IsWritableMain, main_words}
 use Rattle.liszt_parser.proofs.RoundTripText.{canonical_spells}
 use Rattle.liszt_parser.proofs.RoundTripTree.{placed, a_main}
 use Rattle.liszt_parser.proofs.RoundTripWritable.{AreSpelled, is_writable}
+use Rattle.liszt_base.specs.Limits.{depth_limit}
 
 -- the tokens of a text are spelled
 spelled : (text : List ℕ) (tokens : List Token) → AllByRecursion (IsSpelledIn text) tokens → AreSpelled (lexemes text tokens)
@@ -51,8 +52,8 @@ canonical_words : (text : List ℕ) (tokens : List Token) (tree : Main) → toke
     → lexemes (canonical tree) tokens' ≡ placed (place_at tokens') (main_words tree [])
 canonical_words text tokens tree e d tokens' e' =
     let words : map (spelling (canonical tree)) tokens' ≡ main_words tree [] =
-    subst (ComesTo (canonical tree) (main_words tree [])) e'
-    (comes (canonical tree) (main_words tree []) (canonical_spells tree (writable text tokens tree e d))) in
+    subst (ResultsIn (canonical tree) (main_words tree [])) e'
+    (results_in (canonical tree) (main_words tree []) (canonical_spells tree (writable text tokens tree e d))) in
     as_placed (canonical tree) tokens' ∙ ap (placed (place_at tokens')) words
 
 -- so it derives the tree,
@@ -68,32 +69,32 @@ pub only_too_many : (text : List ℕ) (tokens : List Token) (tree : Main) → to
     → (fault : ProgramFault) → tokens_of (canonical tree) ≡ Err fault → fault.what ≡ Big
 only_too_many text tokens tree e d fault e' =
     let h = writable text tokens tree e d in
-    subst (ComesTo (canonical tree) (main_words tree [])) e' (comes (canonical tree) (main_words tree []) (canonical_spells tree h))
+    subst (ResultsIn (canonical tree) (main_words tree [])) e' (results_in (canonical tree) (main_words tree []) (canonical_spells tree h))
 
 -- DEPTH. That no token is deeper than 64, at each place and behind each front
-front_shallow : (whole : List Lexeme) → IsShallow whole (length whole) → (n : ℕ) → n ≤ length whole → depth (take n whole) ≤ 64
+front_shallow : (whole : List Lexeme) → IsShallow whole (length whole) → (n : ℕ) → n ≤ length whole → depth (take n whole) ≤ depth_limit
 front_shallow whole h zero le = omega arith
 front_shallow whole h (suc n) le =
     let one : n + 1 ≡ suc n = omega arith in
-    subst (λ k. depth (take k whole) ≤ 64) one (h n (omega arith) (omega arith))
+    subst (λ k. depth (take k whole) ≤ depth_limit) one (h n (omega arith) (omega arith))
 
-at_front : (whole front ts : List Lexeme) → front ++ ts ≡ whole → ((n : ℕ) → n ≤ length whole → depth (take n whole) ≤ 64) → depth front ≤ 64
+at_front : (whole front ts : List Lexeme) → front ++ ts ≡ whole → ((n : ℕ) → n ≤ length whole → depth (take n whole) ≤ depth_limit) → depth front ≤ depth_limit
 at_front whole front ts is h =
     let seam : take (length front) whole ≡ front = ap (take (length front)) (sym is) ∙ take-append_seam front ts in
     let within : length front ≤ length whole = omega (arith, length-append front ts, ap length is) in
-    subst (λ l. depth l ≤ 64) seam (h (length front) within)
+    subst (λ l. depth l ≤ depth_limit) seam (h (length front) within)
 
-into_fronts : (whole front ts : List Lexeme) → front ++ ts ≡ whole → ((n : ℕ) → n ≤ length whole → depth (take n whole) ≤ 64)
+into_fronts : (whole front ts : List Lexeme) → front ++ ts ≡ whole → ((n : ℕ) → n ≤ length whole → depth (take n whole) ≤ depth_limit)
     → ShallowIn front ts
 into_fronts whole front [] is h = at_front whole front [] is h
 into_fronts whole front (t ∷ ts) is h =
     (at_front whole front (t ∷ ts) is h, into_fronts whole (front ++ t ∷ []) ts (append_assoc front (t ∷ []) ts ∙ is) h)
 
-out_of_fronts : (front ts : List Lexeme) → ShallowIn front ts → (n : ℕ) → n ≤ length ts → depth (front ++ take n ts) ≤ 64
-out_of_fronts front ts h zero le = subst (λ l. depth l ≤ 64) (sym (append-nil front)) (shallow_here front ts h)
+out_of_fronts : (front ts : List Lexeme) → ShallowIn front ts → (n : ℕ) → n ≤ length ts → depth (front ++ take n ts) ≤ depth_limit
+out_of_fronts front ts h zero le = subst (λ l. depth l ≤ depth_limit) (sym (append-nil front)) (shallow_here front ts h)
 out_of_fronts front [] h (suc n) le = absurd (omega arith)
 out_of_fronts front (t ∷ ts) h (suc n) le =
-    subst (λ l. depth l ≤ 64) (append_assoc front (t ∷ []) (take n ts)) (out_of_fronts (front ++ t ∷ []) ts h.1 n (omega arith))
+    subst (λ l. depth l ≤ depth_limit) (append_assoc front (t ∷ []) (take n ts)) (out_of_fronts (front ++ t ∷ []) ts h.1 n (omega arith))
 
 -- where the tokens of the first text are so the canonical ones are too.
 pub stays_shallow : (text : List ℕ) (tokens : List Token) (tree : Main) → tokens_of text ≡ Ok tokens → Derives (lexemes text tokens) tree

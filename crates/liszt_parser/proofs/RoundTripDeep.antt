@@ -9,12 +9,13 @@ use Rattle.liszt_tree.specs.declared.tree.Level.{Level}
 use Rattle.liszt_tree.specs.declared.tree.Level.TheVariants.{Or, And, Sum, Product}
 use Rattle.liszt_tree.specs.Canonical.{chain_level, level_of}
 use Rattle.liszt_tree.specs.Tree.{Expression, Number, Name, Field, Call, Towards, Neg, Not, Chain, Compare, Links, no_links, link, Statement, Var, Val, Assign, If, While, For, Body, no_statement, statement, MainItem, MainField, MainVar, MainAssign, MainIf, MainWhile, MainFor, Print, Main, no_item, item}
-use Rattle.liszt_parser.specs.Grammar.{Lexeme, Rank, chain, comparison, prefixed, alone, operand, any, IsExpression, one_operand, chained, one_sum, compared, no_prefix, negated, denied, number, name, field, call, towards, in_brackets, IsLinks, no_more_links, linked, IsBracketed, bracketed, Closes, by_semicolon, by_brace, by_end, IsDeclared, is_declared, IsTarget, no_target, target, IsStatement, var, val, assign, if, while, for, IsBody, no_statements, statements, IsBlock, block, IsElse, no_else, else, IsItem, main_field, main_var, main_assign, main_if, main_while, main_for, print, IsMain, no_items, items, IsMainBlock, main_block, IsMainElse, no_main_else, main_else}
+use Rattle.liszt_parser.specs.Grammar.{Lexeme, Rank, chain, comparison, prefix_expression, primary_expression, operand, lowest_rank, IsExpression, one_operand, chained, one_sum, compared, no_prefix, negation, logical_not, number, name, field, call, towards, in_brackets, IsLinks, no_more_links, linked, IsBracketed, bracketed, Closes, by_semicolon, by_brace, by_end, IsDeclared, is_declared, IsTarget, no_target, target, IsStatement, var, val, assign, if, while, for, IsBody, no_statements, statements, IsBlock, block, IsElse, no_else, else, IsItem, main_field, main_var, main_assign, main_if, main_while, main_for, print, IsMain, no_items, items, IsMainBlock, main_block, IsMainElse, no_main_else, main_else}
 use Rattle.liszt_parser.specs.Grammar.{open_bracket, close_bracket, open_brace, close_brace, comma, semicolon, colon, arrow, set_to, field_word, if_word, else_word, while_word, for_word, print_word, mesh_word}
 use Rattle.liszt_parser.proofs.RoundTripFronts.{IsQuiet, IsOperator, ShallowIn, no_front}
 use Rattle.liszt_parser.proofs.RoundTripKinds.{IsLead, opening, closing, opening_brace, closing_brace, minus_operator, bang_operator, quiet_name, name_atom, number_atom, name_caller, word_caller, word_lead, fun_caller, kind_lead, whole_caller, set_caller, sign_infix, rel_infix, how_lead, quiet_of, infix_of, lead_of}
-use Rattle.liszt_parser.specs.Sorts.{level_strength, rank_strength}
+use Rattle.liszt_parser.specs.Internal.Sorts.{level_strength, rank_strength}
 use Rattle.liszt_parser.proofs.RoundTripSegments.{Entry, Anywhere, AsLoose, AsOperand, AsAtom, Segment, Operand, LinkList, IsAtom, IsInfix, IsOpening, IsClosing, IsCaller, IsOpeningBrace, IsClosingBrace, IsHead, no_head, one_head, nothing, an_atom, an_operator, in_brackets as bracketed_part, weaker, no_link, a_link, a_chain, then_line, then_part, then_end, before_part, before_loose, before_line, as_part, braces}
+use Rattle.liszt_base.specs.Limits.{depth_limit}
 
 -- HOW DEEP the canonical text of a tree goes: brackets, braces and prefix operators
 abbrev pub in_brackets_deep : Bool → ℕ → ℕ
@@ -80,8 +81,8 @@ abbrev mutual
 abbrev entry_of : Rank → Entry
 entry_of (chain level) = AsLoose
 entry_of comparison = AsLoose
-entry_of prefixed = AsOperand
-entry_of alone = AsAtom
+entry_of prefix_expression = AsOperand
+entry_of primary_expression = AsAtom
 
 -- how deep an expression goes where it is read at a rank
 abbrev deep_at : Rank → Expression → ℕ
@@ -133,7 +134,7 @@ chain_deep level first links =
     ap (λ n. in_brackets_deep (nat_lt (chain_level level) n) (expression_deep (Chain level first links))) (same_strength level)
     ∙ ap (λ b. in_brackets_deep b (expression_deep (Chain level first links))) (not_below (chain_level level))
 
-any_deep : (e : Expression) → expression_deep e ≤ deep_at any e
+any_deep : (e : Expression) → expression_deep e ≤ deep_at lowest_rank e
 any_deep e = go (nat_lt (level_of e) 1) where
   go : (b : Bool) → expression_deep e ≤ in_brackets_deep b (expression_deep e)
   go true = omega arith
@@ -201,16 +202,16 @@ mutual
       }
   expression (no_prefix {e} d) =
       let r = expression d in
-      lower (deep_at prefixed e) (less_at prefixed alone e (omega arith))
+      lower (deep_at prefix_expression e) (less_at prefix_expression primary_expression e (omega arith))
       (record { deep = r.deep; part = weaker (λ before p stop here. here.0) r.part; more = r.more })
-  expression (negated t is d) =
+  expression (negation t is d) =
       let r = expression d in
       record {
         deep = suc r.deep;
         part = an_operator t (subst IsOperator (sym is) minus_operator) r.part;
         more = omega (arith, r.more);
       }
-  expression (denied t is d) =
+  expression (logical_not t is d) =
       let r = expression d in
       record {
         deep = suc r.deep;
@@ -236,7 +237,7 @@ mutual
       }
   expression (in_brackets {ts} {left} {e} d) =
       let r = brackets [] no_head d in
-      record { deep = r.deep; part = r.part; more = omega (arith, r.more, one_bracket alone e) }
+      record { deep = r.deep; part = r.part; more = omega (arith, r.more, one_bracket primary_expression e) }
 
   links : {level : Level} {ts left : List Lexeme} {more : Links} → IsLinks level ts more left → LinksReach (links_deep (chain_level level) more) ts left
   links no_more_links = record { deep = 0; part = no_link; more = omega arith }
@@ -262,10 +263,10 @@ mutual
       }
 
 -- STATEMENTS: what closes one, and its expression with that
-closes : {ts left : List Lexeme} → Closes ts left → Segment Anywhere 0 ts left
-closes (by_semicolon t is) = before_line t (subst IsQuiet (sym is) (quiet_of semicolon refl refl)) (nothing (λ before p stop here. here))
-closes (by_brace t is) = nothing (λ before p stop here. here)
-closes by_end = nothing (λ before p stop here. here)
+is_closing : {ts left : List Lexeme} → Closes ts left → Segment Anywhere 0 ts left
+is_closing (by_semicolon t is) = before_line t (subst IsQuiet (sym is) (quiet_of semicolon refl refl)) (nothing (λ before p stop here. here))
+is_closing (by_brace t is) = nothing (λ before p stop here. here)
+is_closing by_end = nothing (λ before p stop here. here)
 
 -- tokens that lead an expression
 leads : (t : Lexeme) (kind : TokenKind) → t.kind ≡ kind → IsLead kind → IsLead t.kind
@@ -275,13 +276,13 @@ quiets : (t : Lexeme) (kind : TokenKind) → t.kind ≡ kind → IsQuiet kind �
 quiets t kind is h = subst IsQuiet (sym is) h
 
 -- a token, an expression and its end
-valued : {ts mid left : List Lexeme} {e : Expression} (t : Lexeme) → IsLead t.kind → IsExpression any ts e mid → Closes mid left
+valued : {ts mid left : List Lexeme} {e : Expression} (t : Lexeme) → IsLead t.kind → IsExpression lowest_rank ts e mid → Closes mid left
     → LineReaches (expression_deep e) (t ∷ ts) left
 valued {e} t lead d end =
     let a = expression d in
     record {
       deep = max a.deep 0;
-      part = before_loose t lead.quiet lead.no_end (then_end a.part (closes end));
+      part = before_loose t lead.quiet lead.no_end (then_end a.part (is_closing end));
       more = omega (arith, a.more, any_deep e);
     }
 
@@ -292,16 +293,16 @@ led t quiet r = record { deep = r.deep; part = before_line t quiet r.part; more 
 set_lead : IsLead set_to
 set_lead = lead_of set_to refl refl refl
 
-declared : {word : ℕ} {ts left : List Lexeme} {w n : Lexeme} {e : Expression} → IsDeclared (Word word) ts w n e left
+declaration : {word : ℕ} {ts left : List Lexeme} {w n : Lexeme} {e : Expression} → IsDeclared (Word word) ts w n e left
     → LineReaches (expression_deep e) ts left
-declared {word} (is_declared w n s is named set d close) =
+declaration {word} (is_declared w n s is named set d close) =
     led w (quiets w (Word word) is (word_lead word).quiet)
     (led n (quiets n NameToken named quiet_name) (valued s (leads s set_to set set_lead) d close))
 
 -- a part in brackets and lines behind it
-headed : {n : ℕ} {ts mid left : List Lexeme} {e : Expression} (t : Lexeme) → IsQuiet t.kind → IsBracketed ts e mid → LineReaches n mid left
+head_text : {n : ℕ} {ts mid left : List Lexeme} {e : Expression} (t : Lexeme) → IsQuiet t.kind → IsBracketed ts e mid → LineReaches n mid left
     → LineReaches (max (suc (expression_deep e)) n) (t ∷ ts) left
-headed t quiet d r =
+head_text t quiet d r =
     let a = brackets [] no_head d in
     record {
       deep = max a.deep r.deep;
@@ -315,7 +316,7 @@ assigned : {ts ts' left : List Lexeme} {to : Option Expression} {n : ℕ} (t : L
 assigned t quiet no_target r =
     let a = led t quiet r in
     record { deep = a.deep; part = a.part; more = omega (arith, a.more) }
-assigned t quiet (target d) r = headed t quiet d r
+assigned t quiet (target d) r = head_text t quiet d r
 
 both : {m n : ℕ} {ts mid left : List Lexeme} → LineReaches m ts mid → LineReaches n mid left → LineReaches (max m n) ts left
 both a b = record { deep = max a.deep b.deep; part = then_line a.part b.part; more = omega (arith, a.more, b.more) }
@@ -355,13 +356,13 @@ over_set t a named is r =
 
 mutual
   a_statement : {ts left : List Lexeme} {s : Statement} → IsStatement ts s left → LineReaches (statement_deep s) ts left
-  a_statement (var d) = declared d
-  a_statement (val d) = declared d
+  a_statement (var d) = declaration d
+  a_statement (val d) = declaration d
   a_statement (assign {how} n h is to operator d close) =
       assigned n (quiets n NameToken is quiet_name) to (valued h (how_lead h.kind how operator) d close)
   a_statement (if w is test first second) =
-      headed w (quiets w if_word is (word_lead 3).quiet) test (both (a_block first) (an_else second))
-  a_statement (while w is test body) = headed w (quiets w while_word is (word_lead 5).quiet) test (a_block body)
+      head_text w (quiets w if_word is (word_lead 3).quiet) test (both (a_block first) (an_else second))
+  a_statement (while w is test body) = head_text w (quiets w while_word is (word_lead 5).quiet) test (a_block body)
   a_statement (for {set} w o n a s c is opened named arrowed of d close body) =
       looped w o c is opened close (over_set n a named arrowed (brackets (s ∷ []) (one_head s (set_caller s.kind set of)) d)) (a_block body)
 
@@ -396,12 +397,12 @@ mutual
       led w (quiets w field_word is (word_lead 0).quiet) (led n (quiets n NameToken named quiet_name)
       (led d (quiets d colon coloned (quiet_of colon refl refl)) (led k (kind_lead k.kind kind of).quiet
       (valued s (leads s set_to set set_lead) e close))))
-  an_item (main_var d) = declared d
+  an_item (main_var d) = declaration d
   an_item (main_assign {how} n h is operator d close) =
       led n (quiets n NameToken is quiet_name) (valued h (how_lead h.kind how operator) d close)
   an_item (main_if w is test first second) =
-      headed w (quiets w if_word is (word_lead 3).quiet) test (both (a_main_block first) (a_main_else second))
-  an_item (main_while w is test body) = headed w (quiets w while_word is (word_lead 5).quiet) test (a_main_block body)
+      head_text w (quiets w if_word is (word_lead 3).quiet) test (both (a_main_block first) (a_main_else second))
+  an_item (main_while w is test body) = head_text w (quiets w while_word is (word_lead 5).quiet) test (a_main_block body)
   an_item (main_for {kind} w o n a k p m q c is opened named arrowed of inner mesh close close' body) =
       looped w o c is opened close' (over_set n a named arrowed (whole k p m q (whole_caller k.kind kind of) inner mesh close)) (a_block body)
   an_item (print w is d close) = valued w (leads w print_word is (word_lead 7)) d close
@@ -419,7 +420,7 @@ mutual
   a_main_else (main_else w is body) = led w (quiets w else_word is (word_lead 4).quiet) (a_main_block body)
 
 -- so the tokens of a program are as deep as its canonical text somewhere
-pub reaches : (ts : List Lexeme) (tree : Main) → IsMain ts tree [] → ShallowIn [] ts → main_deep tree ≤ 64
+pub reaches : (ts : List Lexeme) (tree : Main) → IsMain ts tree [] → ShallowIn [] ts → main_deep tree ≤ depth_limit
 reaches ts tree d shallow =
     let r = a_main d in
     let whole : ts ≡ r.part.part.tokens = r.part.part.is ∙ append-nil r.part.part.tokens in

@@ -8,8 +8,9 @@ use Rattle.std.proofs.lemmas.List.{append-nil}
 use Rattle.std.proofs.lemmas.List.Sums.{sum_by-append}
 use Rattle.liszt_lexer.specs.declared.token.TokenKind.{TokenKind}
 use Rattle.liszt_tree.specs.Tree.{nowhere}
-use Rattle.liszt_parser.specs.Depth.{is_open_bracket, is_close_bracket, opens, closes, is_minus, is_bang, closes_bracket, holds_operand, is_operand_end, is_prefix, pending, depth}
+use Rattle.liszt_parser.specs.Depth.{is_open_bracket, is_close_bracket, is_opening, is_closing, is_minus, is_bang, closes_bracket, holds_operand, is_operand_end, is_prefix, pending_prefixes, depth}
 use Rattle.liszt_parser.specs.Grammar.{Lexeme}
+use Rattle.liszt_base.specs.Limits.{depth_limit}
 
 -- KINDS OF TOKENS. What depth sees of a token is its kind.
 abbrev pub of_kind : TokenKind → Lexeme
@@ -19,8 +20,8 @@ of_kind kind = record { kind = kind; place = nowhere; bytes = [] }
 pub record IsPlain (kind : TokenKind) : Type 0 where
   pub no_open : is_open_bracket (of_kind kind) ≡ false
   pub no_close : is_close_bracket (of_kind kind) ≡ false
-  pub no_opens : opens (of_kind kind) ≡ false
-  pub no_closes : closes (of_kind kind) ≡ false
+  pub no_opens : is_opening (of_kind kind) ≡ false
+  pub no_closes : is_closing (of_kind kind) ≡ false
   pub no_bang : is_bang (of_kind kind) ≡ false
 
 -- and no prefix operator
@@ -32,8 +33,8 @@ pub record IsQuiet (kind : TokenKind) : Type 0 where
 pub record IsOperator (kind : TokenKind) : Type 0 where
   pub no_open : is_open_bracket (of_kind kind) ≡ false
   pub no_close : is_close_bracket (of_kind kind) ≡ false
-  pub no_opens : opens (of_kind kind) ≡ false
-  pub no_closes : closes (of_kind kind) ≡ false
+  pub no_opens : is_opening (of_kind kind) ≡ false
+  pub no_closes : is_closing (of_kind kind) ≡ false
   pub no_end : is_operand_end (Some (of_kind kind)) ≡ false
   pub holds : (ts : List Lexeme) → holds_operand (of_kind kind ∷ ts) ≡ holds_operand ts
   pub prefix : (before : Option Lexeme) → is_operand_end before ≡ false → is_prefix before (of_kind kind) ≡ true
@@ -75,7 +76,7 @@ closing_last t ts is_close = rw is_close refl
 
 -- PREFIX OPERATORS that wait for the end of their operand
 pub passes : (before : Option Lexeme) (t : Lexeme) (ts : List Lexeme) → is_prefix before t ≡ false
-    → pending before (t ∷ ts) ≡ pending (Some t) ts
+    → pending_prefixes before (t ∷ ts) ≡ pending_prefixes (Some t) ts
 passes before t ts no_prefix =
     let here : ◌≡◌ {A = ℕ} (cond (is_prefix before t && not (holds_operand ts)) 1 0) 0 = ap (λ b. cond (b && not (holds_operand ts)) 1 0) no_prefix in
     omega (arith, here)
@@ -86,8 +87,8 @@ quiet_is_no_prefix before t h =
     let no_minus : is_minus t ≡ false = h.no_minus in
     rw (no_bang, no_minus) refl
 
-pub plain_behind_operand : (before : Option Lexeme) (t : Lexeme) → IsPlain t.kind → is_operand_end before ≡ true → is_prefix before t ≡ false
-plain_behind_operand before t h ended =
+pub plain_after_operand : (before : Option Lexeme) (t : Lexeme) → IsPlain t.kind → is_operand_end before ≡ true → is_prefix before t ≡ false
+plain_after_operand before t h ended =
     let no_bang : is_bang t ≡ false = h.no_bang in
     rw (no_bang, ended) (and-false (is_minus t))
 
@@ -114,35 +115,35 @@ begins_open (t ∷ ts) = is_open_bracket t
 
 -- Behind a front with so many open brackets and braces, so many prefix operators wait for a bracket to close, and so many for the
 -- operand that comes; its last token is known, and whether a bracket may come next.
-pub record Front (front : List Lexeme) (before : Option Lexeme) (open_ waiting coming : ℕ) (stop : Bool) : Type 0 where
-  pub opened : count_by opens front ≡ count_by closes front + open_
+pub record Front (front : List Lexeme) (before : Option Lexeme) (open_ waiting_operands coming : ℕ) (stop : Bool) : Type 0 where
+  pub opened : count_by is_opening front ≡ count_by is_closing front + open_
   pub pends : (ts : List Lexeme) → StaysInside ts → (stop ≡ true → begins_open ts ≡ false)
-      → pending None (front ++ ts) ≡ waiting + unless (holds_operand ts) coming + pending before ts
+      → pending_prefixes None (front ++ ts) ≡ waiting_operands + unless (holds_operand ts) coming + pending_prefixes before ts
 
 pub depth_of : {front : List Lexeme} {before : Option Lexeme} {k q p : ℕ} {stop : Bool} → Front front before k q p stop → depth front ≡ k + q + p
 depth_of {front} {before} {k} {q} {p} h =
-    let here : pending None (front ++ []) ≡ q + p + 0 = h.pends [] (λ n. refl) (λ e. refl) in
-    let whole : pending None (front ++ []) ≡ pending None front = ap (pending None) (append-nil front) in
+    let here : pending_prefixes None (front ++ []) ≡ q + p + 0 = h.pends [] (λ n. refl) (λ e. refl) in
+    let whole : pending_prefixes None (front ++ []) ≡ pending_prefixes None front = ap (pending_prefixes None) (append-nil front) in
     omega (arith, here, whole, h.opened)
 
 pub no_front : Front [] None 0 0 0 false
 no_front = record { opened = refl; pends = λ ts inside stop. nothing ts } where
-  nothing : (ts : List Lexeme) → pending None ts ≡ 0 + unless (holds_operand ts) 0 + pending None ts
+  nothing : (ts : List Lexeme) → pending_prefixes None ts ≡ 0 + unless (holds_operand ts) 0 + pending_prefixes None ts
   nothing ts = let none = unless_none (holds_operand ts) 0 refl in omega (arith, none)
 
 -- DEPTHS that are at most 64, at a front and at each token behind it
 abbrev pub ShallowIn : List Lexeme → List Lexeme → Type 0
-ShallowIn front [] = depth front ≤ 64
-ShallowIn front (t ∷ ts) = (depth front ≤ 64) × ShallowIn (front ++ t ∷ []) ts
+ShallowIn front [] = depth front ≤ depth_limit
+ShallowIn front (t ∷ ts) = (depth front ≤ depth_limit) × ShallowIn (front ++ t ∷ []) ts
 
-pub shallow_here : (front ts : List Lexeme) → ShallowIn front ts → depth front ≤ 64
+pub shallow_here : (front ts : List Lexeme) → ShallowIn front ts → depth front ≤ depth_limit
 shallow_here front [] h = h
 shallow_here front (t ∷ ts) h = h.0
 
-pub joined : (front ts more : List Lexeme) → ShallowIn front ts → ShallowIn (front ++ ts) more → ShallowIn front (ts ++ more)
-joined front [] more h h' = subst (λ l. ShallowIn l more) (append-nil front) h'
-joined front (t ∷ ts) more h h' =
-    (h.0, joined (front ++ t ∷ []) ts more h.1 (subst (λ l. ShallowIn l more) (sym (append_assoc front (t ∷ []) ts)) h'))
+pub chain_tree : (front ts more : List Lexeme) → ShallowIn front ts → ShallowIn (front ++ ts) more → ShallowIn front (ts ++ more)
+chain_tree front [] more h h' = subst (λ l. ShallowIn l more) (append-nil front) h'
+chain_tree front (t ∷ ts) more h h' =
+    (h.0, chain_tree (front ++ t ∷ []) ts more h.1 (subst (λ l. ShallowIn l more) (sym (append_assoc front (t ∷ []) ts)) h'))
 
 pub parted : (front ts more : List Lexeme) → ShallowIn front (ts ++ more) → ShallowIn front ts × ShallowIn (front ++ ts) more
 parted front [] more h = (shallow_here front more h, subst (λ l. ShallowIn l more) (sym (append-nil front)) h)
@@ -151,44 +152,44 @@ parted front (t ∷ ts) more h =
     ((h.0, r.0), subst (λ l. ShallowIn l more) (append_assoc front (t ∷ []) ts) r.1)
 
 -- ONE TOKEN MORE
-pub behind : {front : List Lexeme} {before : Option Lexeme} {k q : ℕ} {stop : Bool} (t : Lexeme) → Front front before k q 0 stop
+pub after : {front : List Lexeme} {before : Option Lexeme} {k q : ℕ} {stop : Bool} (t : Lexeme) → Front front before k q 0 stop
     → IsPlain t.kind → is_prefix before t ≡ false → Front (front ++ t ∷ []) (Some t) k q 0 false
-behind {front} {before} {k} {q} {stop} t h plain no_prefix =
+after {front} {before} {k} {q} {stop} t h plain no_prefix =
     record {
       opened =
           omega (
             arith,
             h.opened,
-            counted opens front (t ∷ []),
-            counted closes front (t ∷ []),
-            not_counted opens t [] plain.no_opens,
-            not_counted closes t [] plain.no_closes,
+            counted is_opening front (t ∷ []),
+            counted is_closing front (t ∷ []),
+            not_counted is_opening t [] plain.no_opens,
+            not_counted is_closing t [] plain.no_closes,
           );
       pends = λ ts inside free. step ts inside;
     }
   where
     step : (ts : List Lexeme) → StaysInside ts
-        → pending None (front ++ t ∷ [] ++ ts) ≡ q + unless (holds_operand ts) 0 + pending (Some t) ts
+        → pending_prefixes None (front ++ t ∷ [] ++ ts) ≡ q + unless (holds_operand ts) 0 + pending_prefixes (Some t) ts
     step ts inside =
-        let whole : pending None (front ++ t ∷ [] ++ ts) ≡ pending None (front ++ (t ∷ ts)) = ap (pending None) (append_assoc front (t ∷ []) ts) in
+        let whole : pending_prefixes None (front ++ t ∷ [] ++ ts) ≡ pending_prefixes None (front ++ (t ∷ ts)) = ap (pending_prefixes None) (append_assoc front (t ∷ []) ts) in
         let here = h.pends (t ∷ ts) (λ n. plain_skips t (suc n) ts plain.no_open plain.no_close ∙ inside n) (λ e. plain.no_open) in
         let none = unless_none (holds_operand (t ∷ ts)) 0 refl in
         let none' = unless_none (holds_operand ts) 0 refl in
         omega (arith, whole, here, none, none', passes before t ts no_prefix)
 
 -- a prefix operator
-pub behind_operator : {front : List Lexeme} {before : Option Lexeme} {k q p : ℕ} (t : Lexeme) → Front front before k q p false
+pub after_operator : {front : List Lexeme} {before : Option Lexeme} {k q p : ℕ} (t : Lexeme) → Front front before k q p false
     → IsOperator t.kind → is_operand_end before ≡ false → Front (front ++ t ∷ []) (Some t) k q (suc p) false
-behind_operator {front} {before} {k} {q} {p} t h is fresh =
+after_operator {front} {before} {k} {q} {p} t h is fresh =
     record {
       opened =
           omega (
             arith,
             h.opened,
-            counted opens front (t ∷ []),
-            counted closes front (t ∷ []),
-            not_counted opens t [] is.no_opens,
-            not_counted closes t [] is.no_closes,
+            counted is_opening front (t ∷ []),
+            counted is_closing front (t ∷ []),
+            not_counted is_opening t [] is.no_opens,
+            not_counted is_closing t [] is.no_closes,
           );
       pends = λ ts inside free. step ts inside;
     }
@@ -198,11 +199,11 @@ behind_operator {front} {before} {k} {q} {p} t h is fresh =
     waits false n = omega arith
 
     step : (ts : List Lexeme) → StaysInside ts
-        → pending None (front ++ t ∷ [] ++ ts) ≡ q + unless (holds_operand ts) (suc p) + pending (Some t) ts
+        → pending_prefixes None (front ++ t ∷ [] ++ ts) ≡ q + unless (holds_operand ts) (suc p) + pending_prefixes (Some t) ts
     step ts inside =
-        let whole : pending None (front ++ t ∷ [] ++ ts) ≡ pending None (front ++ (t ∷ ts)) = ap (pending None) (append_assoc front (t ∷ []) ts) in
+        let whole : pending_prefixes None (front ++ t ∷ [] ++ ts) ≡ pending_prefixes None (front ++ (t ∷ ts)) = ap (pending_prefixes None) (append_assoc front (t ∷ []) ts) in
         let here = h.pends (t ∷ ts) (λ n. plain_skips t (suc n) ts is.no_open is.no_close ∙ inside n) (λ e. is.no_open) in
         whole ∙ here
-        ∙ ap (λ b. q + unless b p + pending before (t ∷ ts)) (is.holds ts)
-        ∙ ap (λ b. q + unless (holds_operand ts) p + (cond (b && not (holds_operand ts)) 1 0 + pending (Some t) ts)) (is.prefix before fresh)
-        ∙ waits (holds_operand ts) (pending (Some t) ts)
+        ∙ ap (λ b. q + unless b p + pending_prefixes before (t ∷ ts)) (is.holds ts)
+        ∙ ap (λ b. q + unless (holds_operand ts) p + (cond (b && not (holds_operand ts)) 1 0 + pending_prefixes (Some t) ts)) (is.prefix before fresh)
+        ∙ waits (holds_operand ts) (pending_prefixes (Some t) ts)

@@ -15,8 +15,8 @@ use Rattle.liszt_tree.specs.declared.tree.Rel.{Rel}
 use Rattle.liszt_tree.specs.declared.tree.Rel.TheVariants.{Same, Other, Below, AtMost, Above, AtLeast}
 use Rattle.liszt_tree.specs.declared.tree.Sign.{Sign}
 use Rattle.liszt_tree.specs.declared.tree.Sign.TheVariants as sign
-use Rattle.liszt_parser.specs.Depth.{is_open_bracket, is_close_bracket, opens, closes, is_minus, is_bang, holds_operand, is_operand_end}
-use Rattle.liszt_parser.specs.Grammar.{Lexeme, fun_of, kind_of, whole_of, set_of, sign_of, rel_of, how_of, open_bracket, close_bracket, open_brace, close_brace, minus, bang}
+use Rattle.liszt_parser.specs.Depth.{is_open_bracket, is_close_bracket, is_opening, is_closing, is_minus, is_bang, holds_operand, is_operand_end}
+use Rattle.liszt_parser.specs.Grammar.{Lexeme, fun_of, kind_of, mesh_set_of, set_of, sign_of, rel_of, how_of, open_bracket, close_bracket, open_brace, close_brace, minus, bang}
 use Rattle.liszt_parser.proofs.RoundTripFronts.{of_kind, IsPlain, IsQuiet, IsOperator, begins_open}
 use Rattle.liszt_parser.proofs.RoundTripSegments.{IsAtom, IsOpening, IsClosing, IsCaller, IsInfix, IsOpeningBrace, IsClosingBrace}
 use Rattle.liszt_parser.proofs.RoundTripTables.{table_symbol}
@@ -24,21 +24,21 @@ use Rattle.liszt_parser.proofs.RoundTripTables.{table_symbol}
 -- BY A TEST
 abbrev pub is_plain : TokenKind → Bool
 is_plain kind =
-    not (is_open_bracket (of_kind kind)) && (not (is_close_bracket (of_kind kind)) && (not (opens (of_kind kind))
-    && (not (closes (of_kind kind)) && not (is_bang (of_kind kind)))))
+    not (is_open_bracket (of_kind kind)) && (not (is_close_bracket (of_kind kind)) && (not (is_opening (of_kind kind))
+    && (not (is_closing (of_kind kind)) && not (is_bang (of_kind kind)))))
 
 pub plain_of : (kind : TokenKind) → is_plain kind ≡ true → IsPlain kind
 plain_of kind e =
     let t = of_kind kind in
-    let a = and_parts (not (is_open_bracket t)) (not (is_close_bracket t) && (not (opens t) && (not (closes t) && not (is_bang t)))) e in
-    let b = and_parts (not (is_close_bracket t)) (not (opens t) && (not (closes t) && not (is_bang t))) a.1 in
-    let c = and_parts (not (opens t)) (not (closes t) && not (is_bang t)) b.1 in
-    let d = and_parts (not (closes t)) (not (is_bang t)) c.1 in
+    let a = and_parts (not (is_open_bracket t)) (not (is_close_bracket t) && (not (is_opening t) && (not (is_closing t) && not (is_bang t)))) e in
+    let b = and_parts (not (is_close_bracket t)) (not (is_opening t) && (not (is_closing t) && not (is_bang t))) a.1 in
+    let c = and_parts (not (is_opening t)) (not (is_closing t) && not (is_bang t)) b.1 in
+    let d = and_parts (not (is_closing t)) (not (is_bang t)) c.1 in
     record {
       no_open = not-true (is_open_bracket t) a.0;
       no_close = not-true (is_close_bracket t) b.0;
-      no_opens = not-true (opens t) c.0;
-      no_closes = not-true (closes t) d.0;
+      no_opens = not-true (is_opening t) c.0;
+      no_closes = not-true (is_closing t) d.0;
       no_bang = not-true (is_bang t) d.1;
     }
 
@@ -132,7 +132,7 @@ pub kind_lead : (kind : TokenKind) (of : Kind) → kind_of kind ≡ Some of → 
 kind_lead (Word place) of e = word_lead place
 kind_lead _ of e = cc
 
-pub whole_caller : (kind : TokenKind) (of : Kind) → whole_of kind ≡ Some of → IsCaller kind
+pub whole_caller : (kind : TokenKind) (of : Kind) → mesh_set_of kind ≡ Some of → IsCaller kind
 whole_caller (Word place) of e = word_caller place
 whole_caller _ of e = cc
 

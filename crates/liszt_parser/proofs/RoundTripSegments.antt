@@ -4,9 +4,10 @@ use Rattle.std.proofs.Common.{refl, sym, ap, subst, ◌∙◌, append_assoc, ari
 use Rattle.std.specs.List.{count_by}
 use Rattle.std.proofs.lemmas.List.{append-nil}
 use Rattle.liszt_lexer.specs.declared.token.TokenKind.{TokenKind}
-use Rattle.liszt_parser.specs.Depth.{is_open_bracket, is_close_bracket, opens, closes, closes_bracket, holds_operand, is_operand_end, is_prefix, pending, depth}
+use Rattle.liszt_parser.specs.Depth.{is_open_bracket, is_close_bracket, is_opening, is_closing, closes_bracket, holds_operand, is_operand_end, is_prefix, pending_prefixes, depth}
 use Rattle.liszt_parser.specs.Grammar.{Lexeme}
-use Rattle.liszt_parser.proofs.RoundTripFronts.{of_kind, IsPlain, IsQuiet, IsOperator, counted, not_counted, one_counted, plain_skips, opening_step, closing_step, closing_last, passes, quiet_is_no_prefix, plain_behind_operand, unless, unless_none, unless_less, StaysInside, begins_open, Front, depth_of, ShallowIn, joined, parted, behind, behind_operator}
+use Rattle.liszt_parser.proofs.RoundTripFronts.{of_kind, IsPlain, IsQuiet, IsOperator, counted, not_counted, one_counted, plain_skips, opening_step, closing_step, closing_last, passes, quiet_is_no_prefix, plain_after_operand, unless, unless_none, unless_less, StaysInside, begins_open, Front, depth_of, ShallowIn, chain_tree, parted, after, after_operator}
+use Rattle.liszt_base.specs.Limits.{depth_limit}
 
 -- WHERE A PART MAY STAND: behind which token, how many prefix operators wait for it, and whether no bracket may come
 abbrev pub Entry : Type 1
@@ -35,22 +36,22 @@ pub record Passage (enters : Entry) (ts left : List Lexeme) : Type 0 where
   pub tokens : List Lexeme
   pub last : Option Lexeme → Option Lexeme
   pub is : ts ≡ tokens ++ left
-  pub even : count_by opens tokens ≡ count_by closes tokens
+  pub even : count_by is_opening tokens ≡ count_by is_closing tokens
   pub skips : (n : ℕ) (more : List Lexeme) → closes_bracket (suc n) (tokens ++ more) ≡ closes_bracket (suc n) more
   pub begins : (before : Option Lexeme) (p : ℕ) (stop : Bool) → enters before p stop → stop ≡ true
       → (more : List Lexeme) → begins_open more ≡ false → begins_open (tokens ++ more) ≡ false
   pub settles : (before : Option Lexeme) (p : ℕ) (stop : Bool) → enters before p stop
       → (more : List Lexeme) → begins_open more ≡ false → unless (holds_operand (tokens ++ more)) p ≡ 0
   pub ends : (before : Option Lexeme) (p : ℕ) (stop : Bool) → enters before p stop
-      → (more : List Lexeme) → begins_open more ≡ false → pending before (tokens ++ more) ≡ pending (last before) more
+      → (more : List Lexeme) → begins_open more ≡ false → pending_prefixes before (tokens ++ more) ≡ pending_prefixes (last before) more
 
 -- and how deep it goes at most, over the depth where it stands
 pub record Segment (enters : Entry) (deep : ℕ) (ts left : List Lexeme) : Type 0 where
   pub part : Passage enters ts left
   pub lower : (front : List Lexeme) (before : Option Lexeme) (k q p : ℕ) (stop : Bool) → Front front before k q p stop → enters before p stop
-      → ShallowIn front part.tokens → k + q + p + deep ≤ 64
+      → ShallowIn front part.tokens → k + q + p + deep ≤ depth_limit
   pub upper : (front : List Lexeme) (before : Option Lexeme) (k q p : ℕ) (stop : Bool) → Front front before k q p stop → enters before p stop
-      → k + q + p + deep ≤ 64 → ShallowIn front part.tokens
+      → k + q + p + deep ≤ depth_limit → ShallowIn front part.tokens
 
 -- the front behind a part
 pub leaves : {enters : Entry} {ts left front : List Lexeme} {before : Option Lexeme} {k q p : ℕ} {stop : Bool} (part : Passage enters ts left)
@@ -58,15 +59,15 @@ pub leaves : {enters : Entry} {ts left front : List Lexeme} {before : Option Lex
 leaves {front} {before} {k} {q} {p} {stop} part h here =
     record {
       opened =
-          omega (arith, h.opened, counted opens front part.tokens, counted closes front part.tokens, part.even);
+          omega (arith, h.opened, counted is_opening front part.tokens, counted is_closing front part.tokens, part.even);
       pends = λ ts inside free. step ts inside (free refl);
     }
   where
     step : (ts : List Lexeme) → StaysInside ts → begins_open ts ≡ false
-        → pending None (front ++ part.tokens ++ ts) ≡ q + unless (holds_operand ts) 0 + pending (part.last before) ts
+        → pending_prefixes None (front ++ part.tokens ++ ts) ≡ q + unless (holds_operand ts) 0 + pending_prefixes (part.last before) ts
     step ts inside free =
-        let whole : pending None (front ++ part.tokens ++ ts) ≡ pending None (front ++ (part.tokens ++ ts)) =
-        ap (pending None) (append_assoc front part.tokens ts) in
+        let whole : pending_prefixes None (front ++ part.tokens ++ ts) ≡ pending_prefixes None (front ++ (part.tokens ++ ts)) =
+        ap (pending_prefixes None) (append_assoc front part.tokens ts) in
         let there = h.pends (part.tokens ++ ts) (λ n. part.skips n ts ∙ inside n) (λ e. part.begins before p stop here e ts free) in
         let settled = part.settles before p stop here ts free in
         let none = unless_none (holds_operand ts) 0 refl in
@@ -124,8 +125,8 @@ then {a} {b} {m} {n} {ts} {mid} {left} none first joins second =
         even =
             omega (
               arith,
-              counted opens first.part.tokens second.part.tokens,
-              counted closes first.part.tokens second.part.tokens,
+              counted is_opening first.part.tokens second.part.tokens,
+              counted is_closing first.part.tokens second.part.tokens,
               first.part.even,
               second.part.even,
             );
@@ -134,13 +135,13 @@ then {a} {b} {m} {n} {ts} {mid} {left} none first joins second =
             ∙ first.part.skips i (second.part.tokens ++ more) ∙ second.part.skips i more;
         begins = λ before p stop here e more free.
             ap begins_open (append_assoc first.part.tokens second.part.tokens more)
-            ∙ first.part.begins before p stop here e (second.part.tokens ++ more) (goes_on before p stop here more free);
+            ∙ first.part.begins before p stop here e (second.part.tokens ++ more) (continues before p stop here more free);
         settles = λ before p stop here more free.
             ap (λ l. unless (holds_operand l) p) (append_assoc first.part.tokens second.part.tokens more)
-            ∙ first.part.settles before p stop here (second.part.tokens ++ more) (goes_on before p stop here more free);
+            ∙ first.part.settles before p stop here (second.part.tokens ++ more) (continues before p stop here more free);
         ends = λ before p stop here more free.
-            ap (pending before) (append_assoc first.part.tokens second.part.tokens more)
-            ∙ first.part.ends before p stop here (second.part.tokens ++ more) (goes_on before p stop here more free)
+            ap (pending_prefixes before) (append_assoc first.part.tokens second.part.tokens more)
+            ∙ first.part.ends before p stop here (second.part.tokens ++ more) (continues before p stop here more free)
             ∙ second.part.ends (first.part.last before) 0 true (joins before p stop here) more free;
       };
       lower = λ front before k q p stop f here h.
@@ -153,15 +154,15 @@ then {a} {b} {m} {n} {ts} {mid} {left} none first joins second =
                 (joins before p stop here) parts.1,
           );
       upper = λ front before k q p stop f here h.
-          joined front first.part.tokens second.part.tokens
+          chain_tree front first.part.tokens second.part.tokens
           (first.upper front before k q p stop f here (omega arith))
           (second.upper (front ++ first.part.tokens) (first.part.last before) k q 0 true (leaves first.part f here)
           (joins before p stop here) (omega arith));
     }
   where
-    goes_on : (before : Option Lexeme) (p : ℕ) (stop : Bool) → a before p stop → (more : List Lexeme) → begins_open more ≡ false
+    continues : (before : Option Lexeme) (p : ℕ) (stop : Bool) → a before p stop → (more : List Lexeme) → begins_open more ≡ false
         → begins_open (second.part.tokens ++ more) ≡ false
-    goes_on before p stop here more free =
+    continues before p stop here more free =
         second.part.begins (first.part.last before) 0 true (joins before p stop here) refl more free
 
 -- A TOKEN before a part
@@ -174,7 +175,7 @@ token {a} {m} {ts} {left} t plain passed there s =
         tokens = t ∷ s.part.tokens;
         last = λ before. s.part.last (Some t);
         is = ap (λ (l : List Lexeme). t ∷ l) s.part.is;
-        even = not_counted opens t s.part.tokens plain.no_opens ∙ s.part.even ∙ sym (not_counted closes t s.part.tokens plain.no_closes);
+        even = not_counted is_opening t s.part.tokens plain.no_opens ∙ s.part.even ∙ sym (not_counted is_closing t s.part.tokens plain.no_closes);
         skips = λ n more. plain_skips t (suc n) (s.part.tokens ++ more) plain.no_open plain.no_close ∙ s.part.skips n more;
         begins = λ before p stop here e more free. plain.no_open;
         settles = λ before p stop here more free. unless_none (holds_operand (t ∷ (s.part.tokens ++ more))) p (passed before p stop here).0;
@@ -183,11 +184,11 @@ token {a} {m} {ts} {left} t plain passed there s =
       };
       lower = λ front before k q p stop f here h.
           let e = (passed before p stop here).0 in
-          let f' = behind t (subst (λ n. Front front before k q n stop) e f) plain (passed before p stop here).1 in
+          let f' = after t (subst (λ n. Front front before k q n stop) e f) plain (passed before p stop here).1 in
           omega (arith, e, s.lower (front ++ t ∷ []) (Some t) k q 0 false f' there h.1);
       upper = λ front before k q p stop f here h.
           let e = (passed before p stop here).0 in
-          let f' = behind t (subst (λ n. Front front before k q n stop) e f) plain (passed before p stop here).1 in
+          let f' = after t (subst (λ n. Front front before k q n stop) e f) plain (passed before p stop here).1 in
           (omega (arith, depth_of f, h), s.upper (front ++ t ∷ []) (Some t) k q 0 false f' there (omega (arith, e, h)));
     }
 
@@ -204,7 +205,7 @@ operator {m} {ts} {left} t is s =
         tokens = t ∷ s.part.tokens;
         last = λ before. s.part.last (Some t);
         is = ap (λ (l : List Lexeme). t ∷ l) s.part.is;
-        even = not_counted opens t s.part.tokens is.no_opens ∙ s.part.even ∙ sym (not_counted closes t s.part.tokens is.no_closes);
+        even = not_counted is_opening t s.part.tokens is.no_opens ∙ s.part.even ∙ sym (not_counted is_closing t s.part.tokens is.no_closes);
         skips = λ n more. plain_skips t (suc n) (s.part.tokens ++ more) is.no_open is.no_close ∙ s.part.skips n more;
         begins = λ before p stop here e more free. is.no_open;
         settles = λ before p stop here more free.
@@ -212,10 +213,10 @@ operator {m} {ts} {left} t is s =
         ends = λ before p stop here more free. ended before more free;
       };
       lower = λ front before k q p stop f here h.
-          let f' = behind_operator t (subst (λ b. Front front before k q p b) here.0 f) is here.1 in
+          let f' = after_operator t (subst (λ b. Front front before k q p b) here.0 f) is here.1 in
           omega (arith, s.lower (front ++ t ∷ []) (Some t) k q (suc p) false f' (refl, is.no_end) h.1);
       upper = λ front before k q p stop f here h.
-          let f' = behind_operator t (subst (λ b. Front front before k q p b) here.0 f) is here.1 in
+          let f' = after_operator t (subst (λ b. Front front before k q p b) here.0 f) is here.1 in
           (omega (arith, depth_of f, h), s.upper (front ++ t ∷ []) (Some t) k q (suc p) false f' (refl, is.no_end) (omega (arith, h)));
     }
   where
@@ -225,10 +226,10 @@ operator {m} {ts} {left} t is s =
     none a false e n = cc
 
     ended : (before : Option Lexeme) (more : List Lexeme) → begins_open more ≡ false
-        → pending before (t ∷ (s.part.tokens ++ more)) ≡ pending (s.part.last (Some t)) more
+        → pending_prefixes before (t ∷ (s.part.tokens ++ more)) ≡ pending_prefixes (s.part.last (Some t)) more
     ended before more free =
         let held = told (holds_operand (s.part.tokens ++ more)) (s.part.settles (Some t) 1 false (refl, is.no_end) more free) in
-        none (is_prefix before t) (holds_operand (s.part.tokens ++ more)) held (pending (Some t) (s.part.tokens ++ more))
+        none (is_prefix before t) (holds_operand (s.part.tokens ++ more)) held (pending_prefixes (Some t) (s.part.tokens ++ more))
         ∙ s.part.ends (Some t) 1 false (refl, is.no_end) more free
 
 -- A NUMBER AND A NAME
@@ -243,7 +244,7 @@ atom_part t is =
       tokens = t ∷ [];
       last = λ before. Some t;
       is = refl;
-      even = not_counted opens t [] is.quiet.plain.no_opens ∙ sym (not_counted closes t [] is.quiet.plain.no_closes);
+      even = not_counted is_opening t [] is.quiet.plain.no_opens ∙ sym (not_counted is_closing t [] is.quiet.plain.no_closes);
       skips = λ n more. plain_skips t (suc n) more is.quiet.plain.no_open is.quiet.plain.no_close;
       begins = λ before p stop here e more free. is.quiet.plain.no_open;
       settles = λ before p stop here more free. ap (λ b. unless b p) (is.holds more free);
@@ -264,8 +265,8 @@ atom {left} t is =
 pub record IsOpening (kind : TokenKind) : Type 0 where
   pub is_open : is_open_bracket (of_kind kind) ≡ true
   pub no_close : is_close_bracket (of_kind kind) ≡ false
-  pub is_opens : opens (of_kind kind) ≡ true
-  pub no_closes : closes (of_kind kind) ≡ false
+  pub is_opens : is_opening (of_kind kind) ≡ true
+  pub no_closes : is_closing (of_kind kind) ≡ false
   pub no_prefix : (before : Option Lexeme) → is_prefix before (of_kind kind) ≡ false
   pub no_end : is_operand_end (Some (of_kind kind)) ≡ false
   pub holds : (ts : List Lexeme) → holds_operand (of_kind kind ∷ ts) ≡ closes_bracket 1 ts
@@ -273,8 +274,8 @@ pub record IsOpening (kind : TokenKind) : Type 0 where
 pub record IsClosing (kind : TokenKind) : Type 0 where
   pub no_open : is_open_bracket (of_kind kind) ≡ false
   pub is_close : is_close_bracket (of_kind kind) ≡ true
-  pub no_opens : opens (of_kind kind) ≡ false
-  pub is_closes : closes (of_kind kind) ≡ true
+  pub no_opens : is_opening (of_kind kind) ≡ false
+  pub is_closes : is_closing (of_kind kind) ≡ true
   pub no_prefix : (before : Option Lexeme) → is_prefix before (of_kind kind) ≡ false
   pub is_end : is_operand_end (Some (of_kind kind)) ≡ true
 
@@ -285,12 +286,12 @@ pub record IsCaller (kind : TokenKind) : Type 0 where
 
 -- what stands before the bracket
 pub record IsHead (head : List Lexeme) : Type 0 where
-  no_opens : count_by opens head ≡ 0
-  no_closes : count_by closes head ≡ 0
+  no_opens : count_by is_opening head ≡ 0
+  no_closes : count_by is_closing head ≡ 0
   skips : (n : ℕ) (ts : List Lexeme) → closes_bracket n (head ++ ts) ≡ closes_bracket n ts
   holds : (o : Lexeme) (ts : List Lexeme) → IsOpening o.kind → holds_operand (head ++ o ∷ ts) ≡ closes_bracket 1 ts
-  ends : (before : Option Lexeme) (o : Lexeme) (ts : List Lexeme) → IsOpening o.kind → pending before (head ++ o ∷ ts) ≡ pending (Some o) ts
-  upper : (front : List Lexeme) (before : Option Lexeme) (k q p : ℕ) → Front front before k q p false → k + q + p ≤ 64 → ShallowIn front head
+  ends : (before : Option Lexeme) (o : Lexeme) (ts : List Lexeme) → IsOpening o.kind → pending_prefixes before (head ++ o ∷ ts) ≡ pending_prefixes (Some o) ts
+  upper : (front : List Lexeme) (before : Option Lexeme) (k q p : ℕ) → Front front before k q p false → k + q + p ≤ depth_limit → ShallowIn front head
 
 pub no_head : IsHead []
 no_head =
@@ -316,17 +317,17 @@ at_caller {front} {before} {k} {q} {p} t f is =
       none,
       unless_less (holds_operand (t ∷ [])) p,
       f.opened,
-      counted opens front (t ∷ []),
-      counted closes front (t ∷ []),
-      not_counted opens t [] plain.no_opens,
-      not_counted closes t [] plain.no_closes,
+      counted is_opening front (t ∷ []),
+      counted is_closing front (t ∷ []),
+      not_counted is_opening t [] plain.no_opens,
+      not_counted is_closing t [] plain.no_closes,
     )
 
 pub one_head : (t : Lexeme) → IsCaller t.kind → IsHead (t ∷ [])
 one_head t is =
     record {
-      no_opens = not_counted opens t [] is.quiet.plain.no_opens;
-      no_closes = not_counted closes t [] is.quiet.plain.no_closes;
+      no_opens = not_counted is_opening t [] is.quiet.plain.no_opens;
+      no_closes = not_counted is_closing t [] is.quiet.plain.no_closes;
       skips = λ n ts. plain_skips t n ts is.quiet.plain.no_open is.quiet.plain.no_close;
       holds = λ o ts opening. is.calls o ts opening.is_open;
       ends = λ before o ts opening.
@@ -348,21 +349,21 @@ in_bracket {front} {head} {before} {k} {q} {p} o h is f =
             f.opened,
             h.no_opens,
             h.no_closes,
-            counted opens (front ++ head) (o ∷ []),
-            counted closes (front ++ head) (o ∷ []),
-            counted opens front head,
-            counted closes front head,
-            one_counted opens o [] is.is_opens,
-            not_counted closes o [] is.no_closes,
+            counted is_opening (front ++ head) (o ∷ []),
+            counted is_closing (front ++ head) (o ∷ []),
+            counted is_opening front head,
+            counted is_closing front head,
+            one_counted is_opening o [] is.is_opens,
+            not_counted is_closing o [] is.no_closes,
           );
       pends = λ ts inside free. step ts inside;
     }
   where
     step : (ts : List Lexeme) → StaysInside ts
-        → pending None (front ++ head ++ o ∷ [] ++ ts) ≡ q + p + unless (holds_operand ts) 0 + pending (Some o) ts
+        → pending_prefixes None (front ++ head ++ o ∷ [] ++ ts) ≡ q + p + unless (holds_operand ts) 0 + pending_prefixes (Some o) ts
     step ts inside =
-        let whole : pending None (front ++ head ++ o ∷ [] ++ ts) ≡ pending None (front ++ (head ++ o ∷ ts)) =
-        ap (pending None) (append_assoc (front ++ head) (o ∷ []) ts ∙ append_assoc front head (o ∷ ts)) in
+        let whole : pending_prefixes None (front ++ head ++ o ∷ [] ++ ts) ≡ pending_prefixes None (front ++ (head ++ o ∷ ts)) =
+        ap (pending_prefixes None) (append_assoc (front ++ head) (o ∷ []) ts ∙ append_assoc front head (o ∷ ts)) in
         let there = f.pends (head ++ o ∷ ts) (λ n. h.skips (suc n) (o ∷ ts) ∙ opening_step o (suc n) ts is.is_open is.no_close ∙ inside (suc n))
         (λ e. no_stop e) in
         let waits : unless (holds_operand (head ++ o ∷ ts)) p ≡ p = ap (λ b. unless b p) (h.holds o ts is ∙ inside 0) in
@@ -370,10 +371,10 @@ in_bracket {front} {head} {before} {k} {q} {p} o h is f =
         omega (arith, whole, there, waits, none, h.ends before o ts is)
 
 -- a front's end is as deep as the front may be
-shallow_behind : (front ts : List Lexeme) → ShallowIn front ts → depth (front ++ ts) ≤ 64
-shallow_behind front [] h = subst (λ l. depth l ≤ 64) (sym (append-nil front)) h
-shallow_behind front (t ∷ ts) h =
-    subst (λ l. depth l ≤ 64) (append_assoc front (t ∷ []) ts) (shallow_behind (front ++ t ∷ []) ts h.1)
+shallow_after : (front ts : List Lexeme) → ShallowIn front ts → depth (front ++ ts) ≤ depth_limit
+shallow_after front [] h = subst (λ l. depth l ≤ depth_limit) (sym (append-nil front)) h
+shallow_after front (t ∷ ts) h =
+    subst (λ l. depth l ≤ depth_limit) (append_assoc front (t ∷ []) ts) (shallow_after (front ++ t ∷ []) ts h.1)
 
 -- the part
 bracketed : {a : Entry} {m : ℕ} {ts left : List Lexeme} (head : List Lexeme) (o c : Lexeme) → IsHead head → IsOpening o.kind → IsClosing c.kind
@@ -391,14 +392,14 @@ bracketed {a} {m} {ts} {left} head o c h is closing there s =
             h.no_opens,
             h.no_closes,
             s.part.even,
-            counted opens head (o ∷ (s.part.tokens ++ c ∷ [])),
-            counted closes head (o ∷ (s.part.tokens ++ c ∷ [])),
-            one_counted opens o (s.part.tokens ++ c ∷ []) is.is_opens,
-            not_counted closes o (s.part.tokens ++ c ∷ []) is.no_closes,
-            counted opens s.part.tokens (c ∷ []),
-            counted closes s.part.tokens (c ∷ []),
-            not_counted opens c [] closing.no_opens,
-            one_counted closes c [] closing.is_closes,
+            counted is_opening head (o ∷ (s.part.tokens ++ c ∷ [])),
+            counted is_closing head (o ∷ (s.part.tokens ++ c ∷ [])),
+            one_counted is_opening o (s.part.tokens ++ c ∷ []) is.is_opens,
+            not_counted is_closing o (s.part.tokens ++ c ∷ []) is.no_closes,
+            counted is_opening s.part.tokens (c ∷ []),
+            counted is_closing s.part.tokens (c ∷ []),
+            not_counted is_opening c [] closing.no_opens,
+            one_counted is_closing c [] closing.is_closes,
           );
       skips = λ n more.
           ap (closes_bracket (suc n)) (inside more) ∙ h.skips (suc n) (o ∷ (s.part.tokens ++ c ∷ more))
@@ -409,7 +410,7 @@ bracketed {a} {m} {ts} {left} head o c h is closing there s =
           ap (λ l. unless (holds_operand l) p) (inside more)
           ∙ ap (λ b. unless b p) (h.holds o (s.part.tokens ++ c ∷ more) is ∙ s.part.skips 0 (c ∷ more) ∙ closing_last c more closing.is_close);
       ends = λ before p stop here more free.
-          ap (pending before) (inside more) ∙ h.ends before o (s.part.tokens ++ c ∷ more) is
+          ap (pending_prefixes before) (inside more) ∙ h.ends before o (s.part.tokens ++ c ∷ more) is
           ∙ s.part.ends (Some o) 0 false there (c ∷ more) closing.no_open
           ∙ passes (s.part.last (Some o)) c more (closing.no_prefix (s.part.last (Some o)));
     }
@@ -435,14 +436,14 @@ brackets {a} {m} {ts} {left} head o c h is closing there s =
           let f₀ = subst (λ b. Front front before k q p b) here f in
           let f' = in_bracket o h is f₀ in
           let inner = s.upper (front ++ head ++ o ∷ []) (Some o) (suc k) (q + p) 0 false f' there (omega (arith, deep)) in
-          let last : depth (front ++ head ++ o ∷ [] ++ s.part.tokens ++ c ∷ []) ≤ 64 =
-          subst (λ l. depth l ≤ 64) (sym (whole front)) (omega (arith, depth_of (leaves part f here), deep)) in
+          let last : depth (front ++ head ++ o ∷ [] ++ s.part.tokens ++ c ∷ []) ≤ depth_limit =
+          subst (λ l. depth l ≤ depth_limit) (sym (whole front)) (omega (arith, depth_of (leaves part f here), deep)) in
           let closed : ShallowIn (front ++ head ++ o ∷ [] ++ s.part.tokens) (c ∷ []) =
           (omega (arith, depth_of (leaves s.part f' there), deep), last) in
           let before_it = h.upper front before k q p f₀ (omega (arith, deep)) in
-          joined front head (o ∷ (s.part.tokens ++ c ∷ [])) before_it (
-            shallow_behind front head before_it,
-            joined (front ++ head ++ o ∷ []) s.part.tokens (c ∷ []) inner closed,
+          chain_tree front head (o ∷ (s.part.tokens ++ c ∷ [])) before_it (
+            shallow_after front head before_it,
+            chain_tree (front ++ head ++ o ∷ []) s.part.tokens (c ∷ []) inner closed,
           );
     }
   where
@@ -456,15 +457,15 @@ brackets {a} {m} {ts} {left} head o c h is closing there s =
 pub record IsOpeningBrace (kind : TokenKind) : Type 0 where
   pub no_open : is_open_bracket (of_kind kind) ≡ false
   pub no_close : is_close_bracket (of_kind kind) ≡ false
-  pub is_opens : opens (of_kind kind) ≡ true
-  pub no_closes : closes (of_kind kind) ≡ false
+  pub is_opens : is_opening (of_kind kind) ≡ true
+  pub no_closes : is_closing (of_kind kind) ≡ false
   pub no_prefix : (before : Option Lexeme) → is_prefix before (of_kind kind) ≡ false
 
 pub record IsClosingBrace (kind : TokenKind) : Type 0 where
   pub no_open : is_open_bracket (of_kind kind) ≡ false
   pub no_close : is_close_bracket (of_kind kind) ≡ false
-  pub no_opens : opens (of_kind kind) ≡ false
-  pub is_closes : closes (of_kind kind) ≡ true
+  pub no_opens : is_opening (of_kind kind) ≡ false
+  pub is_closes : is_closing (of_kind kind) ≡ true
   pub no_prefix : (before : Option Lexeme) → is_prefix before (of_kind kind) ≡ false
 
 in_brace : {front : List Lexeme} {before : Option Lexeme} {k q p : ℕ} {stop : Bool} (o : Lexeme) → IsOpeningBrace o.kind → p ≡ 0
@@ -475,18 +476,18 @@ in_brace {front} {before} {k} {q} {p} {stop} o is none f =
           omega (
             arith,
             f.opened,
-            counted opens front (o ∷ []),
-            counted closes front (o ∷ []),
-            one_counted opens o [] is.is_opens,
-            not_counted closes o [] is.no_closes,
+            counted is_opening front (o ∷ []),
+            counted is_closing front (o ∷ []),
+            one_counted is_opening o [] is.is_opens,
+            not_counted is_closing o [] is.no_closes,
           );
       pends = λ ts inside free. step ts inside;
     }
   where
     step : (ts : List Lexeme) → StaysInside ts
-        → pending None (front ++ o ∷ [] ++ ts) ≡ q + unless (holds_operand ts) 0 + pending (Some o) ts
+        → pending_prefixes None (front ++ o ∷ [] ++ ts) ≡ q + unless (holds_operand ts) 0 + pending_prefixes (Some o) ts
     step ts inside =
-        let whole : pending None (front ++ o ∷ [] ++ ts) ≡ pending None (front ++ (o ∷ ts)) = ap (pending None) (append_assoc front (o ∷ []) ts) in
+        let whole : pending_prefixes None (front ++ o ∷ [] ++ ts) ≡ pending_prefixes None (front ++ (o ∷ ts)) = ap (pending_prefixes None) (append_assoc front (o ∷ []) ts) in
         let here = f.pends (o ∷ ts) (λ n. plain_skips o (suc n) ts is.no_open is.no_close ∙ inside n) (λ e. is.no_open) in
         let none' = unless_none (holds_operand (o ∷ ts)) p none in
         let none'' = unless_none (holds_operand ts) 0 refl in
@@ -503,12 +504,12 @@ braced {m} {ts} {left} o c is closing s =
           omega (
             arith,
             s.part.even,
-            one_counted opens o (s.part.tokens ++ c ∷ []) is.is_opens,
-            not_counted closes o (s.part.tokens ++ c ∷ []) is.no_closes,
-            counted opens s.part.tokens (c ∷ []),
-            counted closes s.part.tokens (c ∷ []),
-            not_counted opens c [] closing.no_opens,
-            one_counted closes c [] closing.is_closes,
+            one_counted is_opening o (s.part.tokens ++ c ∷ []) is.is_opens,
+            not_counted is_closing o (s.part.tokens ++ c ∷ []) is.no_closes,
+            counted is_opening s.part.tokens (c ∷ []),
+            counted is_closing s.part.tokens (c ∷ []),
+            not_counted is_opening c [] closing.no_opens,
+            one_counted is_closing c [] closing.is_closes,
           );
       skips = λ n more.
           plain_skips o (suc n) (s.part.tokens ++ c ∷ [] ++ more) is.no_open is.no_close
@@ -518,7 +519,7 @@ braced {m} {ts} {left} o c is closing s =
       settles = λ before p stop here more free. unless_none (holds_operand (o ∷ (s.part.tokens ++ c ∷ [] ++ more))) p here;
       ends = λ before p stop here more free.
           passes before o (s.part.tokens ++ c ∷ [] ++ more) (is.no_prefix before)
-          ∙ ap (pending (Some o)) (append_assoc s.part.tokens (c ∷ []) more) ∙ s.part.ends (Some o) 0 false refl (c ∷ more) closing.no_open
+          ∙ ap (pending_prefixes (Some o)) (append_assoc s.part.tokens (c ∷ []) more) ∙ s.part.ends (Some o) 0 false refl (c ∷ more) closing.no_open
           ∙ passes (s.part.last (Some o)) c more (closing.no_prefix (s.part.last (Some o)));
     }
 
@@ -534,10 +535,10 @@ braces {m} {ts} {left} o c is closing s =
           omega (arith, here, s.lower (front ++ o ∷ []) (Some o) (suc k) q 0 false (in_brace o is here f) refl inner.0);
       upper = λ front before k q p stop f here deep.
           let f' = in_brace o is here f in
-          let last : depth (front ++ o ∷ [] ++ s.part.tokens ++ c ∷ []) ≤ 64 =
-          subst (λ l. depth l ≤ 64) (sym (whole front)) (omega (arith, depth_of (leaves part f here), deep)) in (
+          let last : depth (front ++ o ∷ [] ++ s.part.tokens ++ c ∷ []) ≤ depth_limit =
+          subst (λ l. depth l ≤ depth_limit) (sym (whole front)) (omega (arith, depth_of (leaves part f here), deep)) in (
             omega (arith, depth_of f, deep),
-            joined (front ++ o ∷ []) s.part.tokens (c ∷ [])
+            chain_tree (front ++ o ∷ []) s.part.tokens (c ∷ [])
                 (s.upper (front ++ o ∷ []) (Some o) (suc k) q 0 false f' refl (omega (arith, here, deep)))
                 (omega (arith, depth_of (leaves s.part f' refl), here, deep), last),
           );
@@ -590,7 +591,7 @@ unfolding then token
 a_link t is s more =
     record {
       segment =
-          token t is.plain (λ before p stop here. (here.0, plain_behind_operand before t is.plain here.1)) (refl, is.no_end, refl)
+          token t is.plain (λ before p stop here. (here.0, plain_after_operand before t is.plain here.1)) (refl, is.no_end, refl)
           (then (λ before p stop here. here.2) s.segment (λ before p stop here. (refl, s.ended before)) more.segment);
       ended = λ before e. more.ended (s.segment.part.last (Some t)) (s.ended (Some t));
     }

@@ -7,19 +7,20 @@ use Rattle.liszt_base.specs.declared.answers.Place.{Place}
 use Rattle.liszt_base.specs.declared.elements.Kind.{Kind}
 use Rattle.liszt_base.specs.declared.elements.Kind.TheVariants.{Vertex, Edge, Face, Cell}
 use Rattle.liszt_lexer.specs.declared.token.TokenKind.TheVariants.{Name as NameToken, Number as NumberToken, Word}
-use Rattle.liszt_lexer.proofs.Spellings.{Spelling}
+use Rattle.liszt_lexer.proofs.SpellingLemmas.{Spelling}
 use Rattle.liszt_tree.specs.declared.tree.Level.TheVariants.{Or, And, Sum, Product}
 use Rattle.liszt_tree.specs.declared.tree.Sign.{Sign}
 use Rattle.liszt_tree.specs.declared.tree.Sign.TheVariants as sign
-use Rattle.liszt_tree.specs.Canonical.{kind_word, whole_word, set_word, fun_word, how_text, sign_text, rel_text, chain_level, level_of}
+use Rattle.liszt_tree.specs.Canonical.{kind_word, mesh_set_word, set_word, fun_word, how_text, sign_text, rel_text, chain_level, level_of}
 use Rattle.liszt_tree.specs.Tree.{Expression, Number, Name, Field, Call, Towards, Neg, Not, Chain, Compare, Links, no_links, link, Statement, Var, Val, Assign, If, While, For, Body, no_statement, statement, MainItem, MainField, MainVar, MainAssign, MainIf, MainWhile, MainFor, Print, Main, no_item, item}
 use Rattle.liszt_parser.specs.Grammar.{Lexeme, open_bracket, close_bracket, open_brace, close_brace, comma, semicolon, colon, arrow, minus, bang, set_to, field_word, if_word, else_word, while_word, for_word, print_word, mesh_word, towards_word}
 use Rattle.liszt_parser.proofs.RoundTripDeep.{in_brackets_deep, expression_deep, links_deep, target_deep, else_deep, statement_deep, body_deep, item_deep, main_deep}
 use Rattle.liszt_parser.proofs.RoundTripFronts.{IsQuiet, ShallowIn, no_front}
 use Rattle.liszt_parser.proofs.RoundTripKinds.{IsLead, opening, closing, opening_brace, closing_brace, minus_operator, bang_operator, quiet_name, name_atom, number_atom, name_caller, word_caller, word_lead, fun_caller, kind_lead, set_caller, rel_infix, how_lead, quiet_of, infix_of, lead_of}
 use Rattle.liszt_parser.proofs.RoundTripSegments.{Entry, Anywhere, AsLoose, AsOperand, AsAtom, Segment, Operand, LinkList, IsInfix, IsHead, no_head, one_head, nothing, an_atom, an_operator, in_brackets as bracketed_part, weaker, no_link, a_link, a_chain, then_line, then_part, then_end, before_part, before_loose, before_line, as_part, braces}
-use Rattle.liszt_parser.proofs.RoundTripTree.{placed_word, later, placed, fun_stands, kind_stands, set_stands, rel_stands, how_stands}
+use Rattle.liszt_parser.proofs.RoundTripTree.{placed_word, later, placed, fun_has_value, kind_has_value, set_has_value, rel_has_value, how_has_value}
 use Rattle.liszt_parser.proofs.RoundTripWords.{Words, spelt, fun_token, kind_token, whole_token, set_token, sign_token, rel_token, how_token, bracketed_words, words_in, words_of, links_words, closed_words, declared_words, target_words, ended_words, else_words, statement_words, body_words, item_words, main_words}
+use Rattle.liszt_base.specs.Limits.{depth_limit}
 
 -- an operator of a chain stands between operands
 sign_infix : (s : Sign) → IsInfix (sign_token s)
@@ -108,17 +109,17 @@ an_operand : {enters : Entry} (e : Expression) (b : Bool) (at : ℕ → Place) (
     → (b ≡ false → (before : Option Lexeme) (p : ℕ) (stop : Bool) → enters before p stop → entry_for e before p stop)
     → ((before : Option Lexeme) (p : ℕ) (stop : Bool) → enters before p stop → AsAtom before p stop) → Writes e
     → Written enters (in_brackets_deep b (expression_deep e)) (placed at (words_in b (words_of e) ws)) ws
-an_operand e false at ws bare in_brackets write =
+an_operand e false at ws expression_without_places in_brackets write =
     let r = write at ws in
-    record { at = r.at; deep = r.deep; part = weaker (bare refl) r.part; less = r.less }
-an_operand e true at ws bare in_brackets write =
+    record { at = r.at; deep = r.deep; part = weaker (expression_without_places refl) r.part; less = r.less }
+an_operand e true at ws expression_without_places in_brackets write =
     let r = brackets [] e at ws no_head write in
     record { at = r.at; deep = r.deep; part = weaker in_brackets r.part; less = r.less }
 
 -- of a chain or a comparison, and of a prefix operator
 loose_operand : (e : Expression) (b : Bool) (at : ℕ → Place) (ws : List Spelling) → Writes e
     → Written AsLoose (in_brackets_deep b (expression_deep e)) (placed at (words_in b (words_of e) ws)) ws
-loose_operand e b at ws write = an_operand e b at ws (λ bare. loose_entry e) (λ before p stop here. here.0) write
+loose_operand e b at ws write = an_operand e b at ws (λ expression_without_places. loose_entry e) (λ before p stop here. here.0) write
 
 tight_operand : (e : Expression) (at : ℕ → Place) (ws : List Spelling) → Writes e
     → Written AsOperand (in_brackets_deep (nat_lt (level_of e) 6) (expression_deep e))
@@ -143,7 +144,7 @@ mutual
       brackets (t ∷ []) arg (later at) ws (one_head t name_caller) (expression arg)
   expression (Call place fun arg) at ws =
       let t = placed_word (at 0) (spelt (fun_token fun) (fun_word fun)) in
-      brackets (t ∷ []) arg (later at) ws (one_head t (fun_caller (fun_token fun) fun (fun_stands fun))) (expression arg)
+      brackets (t ∷ []) arg (later at) ws (one_head t (fun_caller (fun_token fun) fun (fun_has_value fun))) (expression arg)
   expression (Towards place arg to) at ws =
       let close : Spelling = spelt close_bracket (codes ")") in
       let mid : Spelling = spelt comma (codes ",") in
@@ -190,7 +191,7 @@ mutual
         at = b.at;
         deep = max a.deep (max b.deep 0);
         part =
-            a_chain a.part (a_link (placed_word (a.at 0) operator) (rel_infix (rel_token rel) rel (rel_stands rel)) b.part no_link);
+            a_chain a.part (a_link (placed_word (a.at 0) operator) (rel_infix (rel_token rel) rel (rel_has_value rel)) b.part no_link);
         less = omega (arith, a.less, b.less);
       }
 
@@ -232,9 +233,9 @@ valued t e at ws lead =
 set_lead : IsLead set_to
 set_lead = lead_of set_to refl refl refl
 
-declared : (word : ℕ) (bytes called : List ℕ) (init : Expression) (at : ℕ → Place) (ws : List Spelling)
+declaration : (word : ℕ) (bytes called : List ℕ) (init : Expression) (at : ℕ → Place) (ws : List Spelling)
     → WrittenLine (expression_deep init) (placed at (declared_words (Word word) bytes called init ws)) ws
-declared word bytes called init at ws =
+declaration word bytes called init at ws =
     led (placed_word (at 0) (spelt (Word word) bytes)) (word_lead word).quiet (led (placed_word (at 1) (spelt NameToken called)) quiet_name
     (valued (placed_word (at 2) (spelt set_to (codes "="))) init (later (later (later at))) ws set_lead))
 
@@ -242,9 +243,9 @@ declared word bytes called init at ws =
 abbrev WritesLine : ℕ → Words → List Spelling → Type 0
 WritesLine n words ws = (at : ℕ → Place) → WrittenLine n (placed at (words ws)) ws
 
-headed : {n : ℕ} (t : Lexeme) (e : Expression) (at : ℕ → Place) (words : Words) (ws : List Spelling) → IsQuiet t.kind → WritesLine n words ws
+head_text : {n : ℕ} (t : Lexeme) (e : Expression) (at : ℕ → Place) (words : Words) (ws : List Spelling) → IsQuiet t.kind → WritesLine n words ws
     → WrittenLine (max (suc (expression_deep e)) n) (t ∷ placed at (bracketed_words (words_of e) (words ws))) ws
-headed t e at words ws quiet write =
+head_text t e at words ws quiet write =
     let a = brackets [] e at (words ws) no_head (expression e) in
     let r = write a.at in
     record {
@@ -259,7 +260,7 @@ assigned : {n : ℕ} (t : Lexeme) (to : Option Expression) (at : ℕ → Place) 
 assigned t None at words ws quiet write =
     let r = led t quiet (write at) in
     record { at = r.at; deep = r.deep; part = r.part; less = omega (arith, r.less) }
-assigned t (Some e) at words ws quiet write = headed t e at words ws quiet write
+assigned t (Some e) at words ws quiet write = head_text t e at words ws quiet write
 
 both : {m n : ℕ} (f g : Words) (at : ℕ → Place) (ws : List Spelling)
     → WritesLine m f (g ws) → WritesLine n g ws → WrittenLine (max m n) (placed at (f (g ws))) ws
@@ -322,24 +323,24 @@ looped called set body at ws over write =
 
 mutual
   a_statement : (s : Statement) (at : ℕ → Place) (ws : List Spelling) → WrittenLine (statement_deep s) (placed at (statement_words s ws)) ws
-  a_statement (Var place word place' init) at ws = declared 1 (codes "var") word init at ws
-  a_statement (Val place word place' init) at ws = declared 2 (codes "val") word init at ws
+  a_statement (Var place word place' init) at ws = declaration 1 (codes "var") word init at ws
+  a_statement (Val place word place' init) at ws = declaration 2 (codes "val") word init at ws
   a_statement (Assign place word to how value) at ws =
       assigned (placed_word (at 0) (spelt NameToken word)) to (later at) (λ l. spelt (how_token how) (how_text how) ∷ closed_words value l) ws
       quiet_name
-      (λ at. valued (placed_word (at 0) (spelt (how_token how) (how_text how))) value (later at) ws (how_lead (how_token how) how (how_stands how)))
+      (λ at. valued (placed_word (at 0) (spelt (how_token how) (how_text how))) value (later at) ws (how_lead (how_token how) how (how_has_value how)))
   a_statement (If place test first second has_else) at ws =
-      headed (placed_word (at 0) (spelt if_word (codes "if"))) test (later at)
+      head_text (placed_word (at 0) (spelt if_word (codes "if"))) test (later at)
       (λ l. spelt open_brace (codes "{") ∷ body_words first (else_words has_else (body_words second) l)) ws (word_lead 3).quiet
       (λ at. two_blocks has_else (body_words first) (body_words second) at ws (λ ws at. a_body first at ws) (λ ws at. a_body second at ws))
   a_statement (While place test body) at ws =
-      headed (placed_word (at 0) (spelt while_word (codes "while"))) test (later at)
+      head_text (placed_word (at 0) (spelt while_word (codes "while"))) test (later at)
       (λ l. spelt open_brace (codes "{") ∷ body_words body (ended_words l)) ws (word_lead 5).quiet
       (λ at. in_braces (body_words body) at ws (λ at. a_body body at (ended_words ws)))
   a_statement (For place word place' set place'' arg body) at ws =
       looped word (λ l. spelt (set_token set) (set_word set) ∷ bracketed_words (words_of arg) l) (body_words body) at ws
       (λ at l. brackets (placed_word (at 0) (spelt (set_token set) (set_word set)) ∷ []) arg (later at) l
-      (one_head (placed_word (at 0) (spelt (set_token set) (set_word set))) (set_caller (set_token set) set (set_stands set))) (expression arg))
+      (one_head (placed_word (at 0) (spelt (set_token set) (set_word set))) (set_caller (set_token set) set (set_has_value set))) (expression arg))
       (λ ws at. a_body body at ws)
 
   a_body : (body : Body) (at : ℕ → Place) (ws : List Spelling) → WrittenLine (body_deep body) (placed at (body_words body ws)) ws
@@ -365,12 +366,12 @@ whole_mesh set place at ws =
     }
 
 whole_set : (kind : Kind) (at : ℕ → Place) (ws : List Spelling)
-    → Written AsAtom 1 (placed at (spelt (whole_token kind) (whole_word kind) ∷ spelt open_bracket (codes "(")
+    → Written AsAtom 1 (placed at (spelt (whole_token kind) (mesh_set_word kind) ∷ spelt open_bracket (codes "(")
     ∷ spelt mesh_word (codes "mesh") ∷ spelt close_bracket (codes ")") ∷ ws)) ws
-whole_set Vertex at ws = whole_mesh (whole_word Vertex) 21 at ws
-whole_set Edge at ws = whole_mesh (whole_word Edge) 22 at ws
-whole_set Face at ws = whole_mesh (whole_word Face) 23 at ws
-whole_set Cell at ws = whole_mesh (whole_word Cell) 24 at ws
+whole_set Vertex at ws = whole_mesh (mesh_set_word Vertex) 21 at ws
+whole_set Edge at ws = whole_mesh (mesh_set_word Edge) 22 at ws
+whole_set Face at ws = whole_mesh (mesh_set_word Face) 23 at ws
+whole_set Cell at ws = whole_mesh (mesh_set_word Cell) 24 at ws
 
 mutual
   an_item : (i : MainItem) (at : ℕ → Place) (ws : List Spelling) → WrittenLine (item_deep i) (placed at (item_words i ws)) ws
@@ -378,23 +379,23 @@ mutual
       led (placed_word (at 0) (spelt field_word (codes "field"))) (word_lead 0).quiet
       (led (placed_word (at 1) (spelt NameToken word)) quiet_name
       (led (placed_word (at 2) (spelt colon (codes ":"))) (quiet_of colon refl refl)
-      (led (placed_word (at 3) (spelt (kind_token kind) (kind_word kind))) (kind_lead (kind_token kind) kind (kind_stands kind)).quiet
+      (led (placed_word (at 3) (spelt (kind_token kind) (kind_word kind))) (kind_lead (kind_token kind) kind (kind_has_value kind)).quiet
       (valued (placed_word (at 4) (spelt set_to (codes "="))) init (later (later (later (later (later at))))) ws set_lead))))
-  an_item (MainVar place word place' init) at ws = declared 1 (codes "var") word init at ws
+  an_item (MainVar place word place' init) at ws = declaration 1 (codes "var") word init at ws
   an_item (MainAssign place word how value) at ws =
       led (placed_word (at 0) (spelt NameToken word)) quiet_name
       (valued (placed_word (at 1) (spelt (how_token how) (how_text how))) value (later (later at)) ws
-      (how_lead (how_token how) how (how_stands how)))
+      (how_lead (how_token how) how (how_has_value how)))
   an_item (MainIf place test first second has_else) at ws =
-      headed (placed_word (at 0) (spelt if_word (codes "if"))) test (later at)
+      head_text (placed_word (at 0) (spelt if_word (codes "if"))) test (later at)
       (λ l. spelt open_brace (codes "{") ∷ main_words first (else_words has_else (main_words second) l)) ws (word_lead 3).quiet
       (λ at. two_blocks has_else (main_words first) (main_words second) at ws (λ ws at. a_main first at ws) (λ ws at. a_main second at ws))
   an_item (MainWhile place test body) at ws =
-      headed (placed_word (at 0) (spelt while_word (codes "while"))) test (later at)
+      head_text (placed_word (at 0) (spelt while_word (codes "while"))) test (later at)
       (λ l. spelt open_brace (codes "{") ∷ main_words body (ended_words l)) ws (word_lead 5).quiet
       (λ at. in_braces (main_words body) at ws (λ at. a_main body at (ended_words ws)))
   an_item (MainFor place word place' over body) at ws =
-      looped word (λ l. spelt (whole_token over) (whole_word over) ∷ spelt open_bracket (codes "(") ∷ spelt mesh_word (codes "mesh")
+      looped word (λ l. spelt (whole_token over) (mesh_set_word over) ∷ spelt open_bracket (codes "(") ∷ spelt mesh_word (codes "mesh")
       ∷ spelt close_bracket (codes ")") ∷ l) (body_words body) at ws (whole_set over) (λ ws at. a_body body at ws)
   an_item (Print place value) at ws = valued (placed_word (at 0) (spelt print_word (codes "print"))) value (later at) ws (word_lead 7)
 
@@ -404,7 +405,7 @@ mutual
       both (item_words i) (main_words more) at ws (λ at. an_item i at (main_words more ws)) (λ at. a_main more at ws)
 
 -- so the tokens of a canonical text are shallow where its tree is
-pub written_shallow : (tree : Main) (at : ℕ → Place) → main_deep tree ≤ 64 → ShallowIn [] (placed at (main_words tree []))
+pub written_shallow : (tree : Main) (at : ℕ → Place) → main_deep tree ≤ depth_limit → ShallowIn [] (placed at (main_words tree []))
 written_shallow tree at le =
     let r = a_main tree at [] in
     let whole : placed at (main_words tree []) ≡ r.part.part.tokens = r.part.part.is ∙ append-nil r.part.part.tokens in

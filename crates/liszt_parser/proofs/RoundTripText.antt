@@ -8,8 +8,8 @@ use Rattle.liszt_base.specs.declared.elements.SetName.{SetName}
 use Rattle.liszt_base.specs.declared.elements.SetName.TheVariants.{Vertices, Edges, Faces, Cells, EdgesCcw}
 use Rattle.liszt_lexer.specs.declared.token.TokenKind.{TokenKind}
 use Rattle.liszt_lexer.specs.declared.token.TokenKind.TheVariants.{Name as NameToken, Number as NumberToken}
-use Rattle.liszt_lexer.proofs.Spellings.{Spelling, IsSpelling, Spells, spells_nothing, spells_blank, spells_token, spells_minus, spells_bang, spells_bracket}
-use Rattle.liszt_lexer.proofs.Stops.{Stops, begins_well, name_begins, number_is_token}
+use Rattle.liszt_lexer.proofs.SpellingLemmas.{Spelling, IsSpelling, Spells, spells_nothing, spells_blank, spells_token, spells_minus, spells_bang, spells_bracket}
+use Rattle.liszt_lexer.proofs.TokenEndLemmas.{EndsToken, begins_well, name_begins, number_is_token}
 use Rattle.liszt_tree.specs.declared.tree.Fun.{Fun}
 use Rattle.liszt_tree.specs.declared.tree.Fun.TheVariants.{Head, Tail, Inside, Outside, Flip, Valid, Id}
 use Rattle.liszt_tree.specs.declared.tree.How.{How}
@@ -19,7 +19,7 @@ use Rattle.liszt_tree.specs.declared.tree.Rel.{Rel}
 use Rattle.liszt_tree.specs.declared.tree.Rel.TheVariants.{Same, Other, Below, AtMost, Above, AtLeast}
 use Rattle.liszt_tree.specs.declared.tree.Sign.{Sign}
 use Rattle.liszt_tree.specs.declared.tree.Sign.TheVariants as sign
-use Rattle.liszt_tree.specs.Canonical.{kind_word, whole_word, set_word, fun_word, how_text, sign_text, rel_text, chain_level, level_of, bracketed, spaced, text_of, links_text, line, closed_line, declared, headed, target_text, else_text, statement_text, body_text, item_text, main_text, canonical}
+use Rattle.liszt_tree.specs.Canonical.{kind_word, mesh_set_word, set_word, fun_word, how_text, sign_text, rel_text, chain_level, level_of, bracketed_text, spaced_text, expression_text, links_text, line, terminated_line, declaration_text, head_text, target_text, else_text, statement_text, body_text, item_text, main_text, canonical}
 use Rattle.liszt_tree.specs.Tree.{Expression, Number, Name, Field, Call, Towards, Neg, Not, Chain, Compare, Links, no_links, link, Statement, Var, Val, Assign, If, While, For, Body, no_statement, statement, MainItem, MainField, MainVar, MainAssign, MainIf, MainWhile, MainFor, Print, Main, no_item, item}
 use Rattle.liszt_parser.specs.Grammar.{open_bracket, close_bracket, open_brace, close_brace, comma, semicolon, colon, arrow, minus, bang, set_to, field_word, var_word, val_word, if_word, else_word, while_word, for_word, print_word, mesh_word, towards_word}
 use Rattle.liszt_parser.proofs.RoundTripWords.{Words, spelt, fun_token, kind_token, whole_token, set_token, sign_token, rel_token, how_token, bracketed_words, words_in, words_of, links_words, declared_words, headed_words, target_words, ended_words, else_words, statement_words, body_words, item_words, main_words, IsWritable, AreWritable, IsWritableTarget, IsWritableStatement, IsWritableBody, IsWritableItem, IsWritableMain}
@@ -49,7 +49,7 @@ kind_is Edge = record { is = refl }
 kind_is Face = record { is = refl }
 kind_is Cell = record { is = refl }
 
-whole_is : (kind : Kind) → IsSpelling (whole_token kind) (whole_word kind)
+whole_is : (kind : Kind) → IsSpelling (whole_token kind) (mesh_set_word kind)
 whole_is Vertex = record { is = refl }
 whole_is Edge = record { is = refl }
 whole_is Face = record { is = refl }
@@ -92,11 +92,11 @@ how_is (Fold Max) = record { is = refl }
 
 -- A TEXT WRITES WORDS where it is cut into them before a byte that ends tokens.
 record Writes (text : List ℕ) (words : Words) : Type 0 where
-  write : (rest : List ℕ) (ws : List Spelling) → Stops rest → Spells rest ws → Spells (text ++ rest) (words ws)
+  write : (rest : List ℕ) (ws : List Spelling) → EndsToken rest → Spells rest ws → Spells (text ++ rest) (words ws)
 
 -- a text ends tokens, or what is behind it does
 abbrev Follows : List ℕ → Type 0
-Follows text = (rest : List ℕ) → Stops rest → Stops (text ++ rest)
+Follows text = (rest : List ℕ) → EndsToken rest → EndsToken (text ++ rest)
 
 -- one token, a blank, and a text with another behind it
 token : {bytes : List ℕ} (kind : TokenKind) → IsSpelling kind bytes → Writes bytes (λ ws. spelt kind bytes ∷ ws)
@@ -135,9 +135,9 @@ negative {text} {words} begins h =
           spells_minus (text ++ rest) (words ws) (begins_in text rest begins) (h.write rest ws stops more);
     }
 
-denied : {text : List ℕ} {words : Words} → begins_well text ≡ true → Writes text words
+logical_not : {text : List ℕ} {words : Words} → begins_well text ≡ true → Writes text words
     → Writes (33 ∷ text) (λ ws. spelt bang (codes "!") ∷ words ws)
-denied {text} {words} begins h =
+logical_not {text} {words} begins h =
     record {
       write = λ rest ws stops more.
           spells_bang (text ++ rest) (words ws) (begins_in text rest begins) (h.write rest ws stops more);
@@ -152,17 +152,17 @@ in_brackets : {text : List ℕ} {words : Words} → begins_well text ≡ true �
 in_brackets {text} begins h = opened (begins_in text (codes ")") begins) (both (λ rest stops. refl) h closing)
 
 in_brackets_if : {text : List ℕ} {words : Words} (b : Bool) → begins_well text ≡ true → Writes text words
-    → Writes (bracketed b text) (words_in b words)
+    → Writes (bracketed_text b text) (words_in b words)
 in_brackets_if true begins h = in_brackets begins h
 in_brackets_if false begins h = h
 
-begins_if : (b : Bool) (text : List ℕ) → begins_well text ≡ true → begins_well (bracketed b text) ≡ true
+begins_if : (b : Bool) (text : List ℕ) → begins_well text ≡ true → begins_well (bracketed_text b text) ≡ true
 begins_if true text e = refl
 begins_if false text e = e
 
 -- an operator between blanks, before a text
 between : {bytes text : List ℕ} {words : Words} (kind : TokenKind) → IsSpelling kind bytes → Writes text words
-    → Writes (spaced bytes ++ text) (λ ws. spelt kind bytes ∷ words ws)
+    → Writes (spaced_text bytes ++ text) (λ ws. spelt kind bytes ∷ words ws)
 between {bytes} {text} {words} kind is h =
     subst (λ (l : List ℕ). Writes (32 ∷ l) (λ ws. spelt kind bytes ∷ words ws)) (sym (append_assoc bytes (codes " ") text))
     (blank (both (λ rest stops. refl) (token kind is) (blank h)))
@@ -177,16 +177,16 @@ begins_applied bytes text begins = simp append_assoc (begins_in bytes (40 ∷ (t
 
 -- two operands and the operator between them
 operated : {bytes a b : List ℕ} {f g : Words} (kind : TokenKind) → IsSpelling kind bytes → Writes a f → Writes b g
-    → Writes (a ++ spaced bytes ++ b) (λ ws. f (spelt kind bytes ∷ g ws))
+    → Writes (a ++ spaced_text bytes ++ b) (λ ws. f (spelt kind bytes ∷ g ws))
 operated {bytes} {a} {b} {f} {g} kind is left right =
-    subst (λ (l : List ℕ). Writes l (λ ws. f (spelt kind bytes ∷ g ws))) (sym (append_assoc a (spaced bytes) b))
+    subst (λ (l : List ℕ). Writes l (λ ws. f (spelt kind bytes ∷ g ws))) (sym (append_assoc a (spaced_text bytes) b))
     (both (λ rest stops. refl) left (between kind is right))
 
 -- an operator, its operand and the links behind it
 one_link : {bytes a b : List ℕ} {f g : Words} (kind : TokenKind) → IsSpelling kind bytes → Follows b → Writes a f → Writes b g
-    → Writes (spaced bytes ++ a ++ b) (λ ws. spelt kind bytes ∷ f (g ws))
+    → Writes (spaced_text bytes ++ a ++ b) (λ ws. spelt kind bytes ∷ f (g ws))
 one_link {bytes} {a} {b} {f} {g} kind is follows operand more =
-    subst (λ (l : List ℕ). Writes l (λ ws. spelt kind bytes ∷ f (g ws))) (sym (append_assoc (spaced bytes) a b))
+    subst (λ (l : List ℕ). Writes l (λ ws. spelt kind bytes ∷ f (g ws))) (sym (append_assoc (spaced_text bytes) a b))
     (between kind is (both follows operand more))
 
 -- nothing
@@ -205,29 +205,29 @@ two_arguments {a} {b} begins first second =
     (blank (both (λ rest stops. refl) second closing))))))
 
 -- EXPRESSIONS
-begins : (e : Expression) → IsWritable e → begins_well (text_of e) ≡ true
+begins : (e : Expression) → IsWritable e → begins_well (expression_text e) ≡ true
 begins (Number place value) h = (number_is_token value h).1
 begins (Name place name) h = name_begins name h.is
-begins (Field place name arg) h = begins_applied name (text_of arg) (name_begins name h.0.is)
-begins (Call place fun arg) h = begins_applied (fun_word fun) (text_of arg) (fun_begins fun)
+begins (Field place name arg) h = begins_applied name (expression_text arg) (name_begins name h.0.is)
+begins (Call place fun arg) h = begins_applied (fun_word fun) (expression_text arg) (fun_begins fun)
 begins (Towards place arg to) h = refl
 begins (Neg place arg) h = refl
 begins (Not place arg) h = refl
 begins (Chain level first links) h =
-    begins_in (bracketed (nat_le (level_of first) (chain_level level)) (text_of first)) (links_text (chain_level level) links)
-    (begins_if (nat_le (level_of first) (chain_level level)) (text_of first) (begins first h.0))
+    begins_in (bracketed_text (nat_le (level_of first) (chain_level level)) (expression_text first)) (links_text (chain_level level) links)
+    (begins_if (nat_le (level_of first) (chain_level level)) (expression_text first) (begins first h.0))
 begins (Compare place rel left right) h =
-    begins_in (bracketed (nat_le (level_of left) 3) (text_of left) ++ spaced (rel_text rel))
-    (bracketed (nat_le (level_of right) 3) (text_of right))
-    (begins_in (bracketed (nat_le (level_of left) 3) (text_of left)) (spaced (rel_text rel))
-    (begins_if (nat_le (level_of left) 3) (text_of left) (begins left h.0)))
+    begins_in (bracketed_text (nat_le (level_of left) 3) (expression_text left) ++ spaced_text (rel_text rel))
+    (bracketed_text (nat_le (level_of right) 3) (expression_text right))
+    (begins_in (bracketed_text (nat_le (level_of left) 3) (expression_text left)) (spaced_text (rel_text rel))
+    (begins_if (nat_le (level_of left) 3) (expression_text left) (begins left h.0)))
 
 links_follow : (level : ℕ) (links : Links) → Follows (links_text level links)
 links_follow level no_links rest stops = stops
 links_follow level (link s place arg more) rest stops = refl
 
 mutual
-  expression : (e : Expression) → IsWritable e → Writes (text_of e) (words_of e)
+  expression : (e : Expression) → IsWritable e → Writes (expression_text e) (words_of e)
   expression (Number place value) h = token (NumberToken value) (record { is = (number_is_token value h).0 })
   expression (Name place name) h = token NameToken h
   expression (Field place name arg) h =
@@ -236,10 +236,10 @@ mutual
       applied (fun_token fun) (fun_is fun) (begins arg h) (expression arg h)
   expression (Towards place arg to) h = two_arguments (begins arg h.0) (expression arg h.0) (expression to h.1)
   expression (Neg place arg) h =
-      negative (begins_if (nat_lt (level_of arg) 6) (text_of arg) (begins arg h))
+      negative (begins_if (nat_lt (level_of arg) 6) (expression_text arg) (begins arg h))
       (in_brackets_if (nat_lt (level_of arg) 6) (begins arg h) (expression arg h))
   expression (Not place arg) h =
-      denied (begins_if (nat_lt (level_of arg) 6) (text_of arg) (begins arg h))
+      logical_not (begins_if (nat_lt (level_of arg) 6) (expression_text arg) (begins arg h))
       (in_brackets_if (nat_lt (level_of arg) 6) (begins arg h) (expression arg h))
   expression (Chain level first links) h =
       both (links_follow (chain_level level) links)
@@ -286,10 +286,10 @@ then {a} {b} {f} {g} ha hb =
 
 -- a line with its `;`
 closed : {text : List ℕ} {words : Words} (depth : ℕ) → Writes text words
-    → WritesLines (closed_line depth text) (λ ws. words (spelt semicolon (codes ";") ∷ ws))
+    → WritesLines (terminated_line depth text) (λ ws. words (spelt semicolon (codes ";") ∷ ws))
 closed depth h = one_line depth (both (λ rest stops. refl) h (token semicolon (record { is = refl })))
 
--- ` = ` and a value, and a declaration
+-- ` = ` and a value, and a declaration_text
 set_value : {text : List ℕ} {words : Words} → Writes text words → Writes (codes " = " ++ text) (λ ws. spelt set_to (codes "=") ∷ words ws)
 set_value h = blank (both {a = codes "="} (λ rest stops. refl) (token set_to (record { is = refl })) (blank h))
 
@@ -300,7 +300,7 @@ declares kind is named h =
     simp append_assoc (both (λ rest stops. refl) (token kind is) (blank (both (λ rest stops. refl) (token NameToken named) (set_value h))))
 
 a_declaration : (depth : ℕ) (kind : TokenKind) (word name : List ℕ) (init : Expression) → IsSpelling kind word
-    → IsSpelling NameToken name × IsWritable init → WritesLines (closed_line depth (declared word name init)) (declared_words kind word name init)
+    → IsSpelling NameToken name × IsWritable init → WritesLines (terminated_line depth (declaration_text word name init)) (declared_words kind word name init)
 a_declaration depth kind word name init is h = closed depth (declares kind is h.0 (expression init h.1))
 
 -- ` {`, and a line that begins a block
@@ -314,7 +314,7 @@ heads {text} kind is begins h =
     (both (λ rest stops. refl) h (both {a = codes ")"} (λ rest stops. refl) closing brace)))))
 
 a_head : (depth : ℕ) (kind : TokenKind) (word : List ℕ) (test : Expression) → IsSpelling kind word → IsWritable test
-    → WritesLines (line depth (headed word test)) (headed_words kind word test)
+    → WritesLines (line depth (head_text word test)) (headed_words kind word test)
 a_head depth kind word test is h = one_line depth (heads kind is (begins test h) (expression test h))
 
 -- the line that ends it
@@ -389,7 +389,7 @@ a_target (Some target) h follows more = both follows (in_brackets (begins target
 -- a name, what may stand behind it, an operator and a value
 assigns : {name set text : List ℕ} {words : Words} (target : Option Expression) (kind : TokenKind) → IsSpelling NameToken name
     → IsWritableTarget target → IsSpelling kind set → Writes text words
-    → Writes (name ++ target_text target ++ spaced set ++ text)
+    → Writes (name ++ target_text target ++ spaced_text set ++ text)
     (λ ws. spelt NameToken name ∷ target_words target (spelt kind set ∷ words ws))
 assigns {set} {text} target kind named at is h =
     simp append_assoc (both (target_follows target (32 ∷ (set ++ (32 ∷ text))) (λ rest stops. refl)) (token NameToken named)

@@ -13,7 +13,7 @@ use Rattle.liszt_base.specs.declared.elements.SetName.{SetName}
 use Rattle.liszt_base.specs.declared.elements.SetName.TheVariants.{Vertices, Edges, Faces, Cells, EdgesCcw}
 use Rattle.liszt_lexer.specs.declared.token.TokenKind.{TokenKind}
 use Rattle.liszt_lexer.specs.declared.token.TokenKind.TheVariants.{Name as NameToken, Number as NumberToken}
-use Rattle.liszt_lexer.proofs.Spellings.{Spelling}
+use Rattle.liszt_lexer.proofs.SpellingLemmas.{Spelling}
 use Rattle.liszt_tree.specs.declared.tree.Fun.{Fun}
 use Rattle.liszt_tree.specs.declared.tree.Fun.TheVariants.{Head, Tail, Inside, Outside, Flip, Valid, Id}
 use Rattle.liszt_tree.specs.declared.tree.How.{How}
@@ -22,9 +22,9 @@ use Rattle.liszt_tree.specs.declared.tree.Level.{Level}
 use Rattle.liszt_tree.specs.declared.tree.Level.TheVariants.{Or, And, Sum, Product}
 use Rattle.liszt_tree.specs.declared.tree.Rel.{Rel}
 use Rattle.liszt_tree.specs.declared.tree.Rel.TheVariants.{Same, Other, Below, AtMost, Above, AtLeast}
-use Rattle.liszt_tree.specs.Canonical.{kind_word, whole_word, set_word, fun_word, how_text, sign_text, rel_text, chain_level, level_of}
-use Rattle.liszt_tree.specs.Tree.{Expression, Number, Name, Field, Call, Towards, Neg, Not, Chain, Compare, Links, no_links, link, Statement, Var, Val, Assign, If, While, For, Body, no_statement, statement, MainItem, MainField, MainVar, MainAssign, MainIf, MainWhile, MainFor, Print, Main, no_item, item, nowhere, bare, bare_links, bare_statement, bare_body, bare_item, bare_main}
-use Rattle.liszt_parser.specs.Grammar.{Lexeme, open_bracket, close_bracket, open_brace, close_brace, comma, semicolon, colon, arrow, minus, bang, set_to, field_word, var_word, val_word, if_word, else_word, while_word, for_word, print_word, mesh_word, towards_word, fun_of, kind_of, whole_of, set_of, rel_of, how_of, Rank, chain, comparison, prefixed, alone, operand, any, IsExpression, one_operand, chained, one_sum, compared, no_prefix, negated, denied, number, name, field, call, towards, in_brackets, IsLinks, no_more_links, linked, IsBracketed, bracketed, Closes, by_semicolon, IsDeclared, is_declared, IsTarget, no_target, target, IsStatement, var, val, assign, if, while, for, IsBody, no_statements, statements, IsBlock, block, IsElse, no_else, else, IsItem, main_field, main_var, main_assign, main_if, main_while, main_for, print, IsMain, no_items, items, IsMainBlock, main_block, IsMainElse, no_main_else, main_else}
+use Rattle.liszt_tree.specs.Canonical.{kind_word, mesh_set_word, set_word, fun_word, how_text, sign_text, rel_text, chain_level, level_of}
+use Rattle.liszt_tree.specs.Tree.{Expression, Number, Name, Field, Call, Towards, Neg, Not, Chain, Compare, Links, no_links, link, Statement, Var, Val, Assign, If, While, For, Body, no_statement, statement, MainItem, MainField, MainVar, MainAssign, MainIf, MainWhile, MainFor, Print, Main, no_item, item, nowhere, expression_without_places, links_without_places, statement_without_places, body_without_places, item_without_places, main_without_places}
+use Rattle.liszt_parser.specs.Grammar.{Lexeme, open_bracket, close_bracket, open_brace, close_brace, comma, semicolon, colon, arrow, minus, bang, set_to, field_word, var_word, val_word, if_word, else_word, while_word, for_word, print_word, mesh_word, towards_word, fun_of, kind_of, mesh_set_of, set_of, rel_of, how_of, Rank, chain, comparison, prefix_expression, primary_expression, operand, lowest_rank, IsExpression, one_operand, chained, one_sum, compared, no_prefix, negation, logical_not, number, name, field, call, towards, in_brackets, IsLinks, no_more_links, linked, IsBracketed, bracketed, Closes, by_semicolon, IsDeclared, is_declared, IsTarget, no_target, target, IsStatement, var, val, assign, if, while, for, IsBody, no_statements, statements, IsBlock, block, IsElse, no_else, else, IsItem, main_field, main_var, main_assign, main_if, main_while, main_for, print, IsMain, no_items, items, IsMainBlock, main_block, IsMainElse, no_main_else, main_else}
 use Rattle.liszt_parser.proofs.RoundTripWords.{spelt, fun_token, kind_token, whole_token, set_token, sign_token, rel_token, how_token, bracketed_words, words_in, words_of, links_words, closed_words, declared_words, target_words, ended_words, else_words, statement_words, body_words, item_words, main_words, HasLink, IsWritable, AreWritable, IsWritableTarget, IsElseOf, IsMainElseOf, IsWritableStatement, IsWritableBody, IsWritableItem, IsWritableMain}
 
 -- WORDS AT PLACES are tokens.
@@ -39,52 +39,52 @@ placed at [] = []
 placed at (w ∷ ws) = placed_word (at 0) w ∷ placed (later at) ws
 
 -- THE TOKENS of functions, kinds, sets and operators stand for them.
-pub fun_stands : (fun : Fun) → fun_of (fun_token fun) ≡ Some fun
-fun_stands Head = refl
-fun_stands Tail = refl
-fun_stands Inside = refl
-fun_stands Outside = refl
-fun_stands Flip = refl
-fun_stands Valid = refl
-fun_stands Id = refl
+pub fun_has_value : (fun : Fun) → fun_of (fun_token fun) ≡ Some fun
+fun_has_value Head = refl
+fun_has_value Tail = refl
+fun_has_value Inside = refl
+fun_has_value Outside = refl
+fun_has_value Flip = refl
+fun_has_value Valid = refl
+fun_has_value Id = refl
 
-pub kind_stands : (kind : Kind) → kind_of (kind_token kind) ≡ Some kind
-kind_stands Vertex = refl
-kind_stands Edge = refl
-kind_stands Face = refl
-kind_stands Cell = refl
+pub kind_has_value : (kind : Kind) → kind_of (kind_token kind) ≡ Some kind
+kind_has_value Vertex = refl
+kind_has_value Edge = refl
+kind_has_value Face = refl
+kind_has_value Cell = refl
 
-pub whole_stands : (kind : Kind) → whole_of (whole_token kind) ≡ Some kind
-whole_stands Vertex = refl
-whole_stands Edge = refl
-whole_stands Face = refl
-whole_stands Cell = refl
+pub whole_has_value : (kind : Kind) → mesh_set_of (whole_token kind) ≡ Some kind
+whole_has_value Vertex = refl
+whole_has_value Edge = refl
+whole_has_value Face = refl
+whole_has_value Cell = refl
 
-pub set_stands : (set : SetName) → set_of (set_token set) ≡ Some set
-set_stands Vertices = refl
-set_stands Edges = refl
-set_stands Faces = refl
-set_stands Cells = refl
-set_stands EdgesCcw = refl
+pub set_has_value : (set : SetName) → set_of (set_token set) ≡ Some set
+set_has_value Vertices = refl
+set_has_value Edges = refl
+set_has_value Faces = refl
+set_has_value Cells = refl
+set_has_value EdgesCcw = refl
 
-pub rel_stands : (rel : Rel) → rel_of (rel_token rel) ≡ Some rel
-rel_stands Same = refl
-rel_stands Other = refl
-rel_stands Below = refl
-rel_stands AtMost = refl
-rel_stands Above = refl
-rel_stands AtLeast = refl
+pub rel_has_value : (rel : Rel) → rel_of (rel_token rel) ≡ Some rel
+rel_has_value Same = refl
+rel_has_value Other = refl
+rel_has_value Below = refl
+rel_has_value AtMost = refl
+rel_has_value Above = refl
+rel_has_value AtLeast = refl
 
-pub how_stands : (how : How) → how_of (how_token how) ≡ Some how
-how_stands Set = refl
-how_stands Less = refl
-how_stands (Fold Add) = refl
-how_stands (Fold Mul) = refl
-how_stands (Fold AndBits) = refl
-how_stands (Fold OrBits) = refl
-how_stands (Fold Xor) = refl
-how_stands (Fold Min) = refl
-how_stands (Fold Max) = refl
+pub how_has_value : (how : How) → how_of (how_token how) ≡ Some how
+how_has_value Set = refl
+how_has_value Less = refl
+how_has_value (Fold Add) = refl
+how_has_value (Fold Mul) = refl
+how_has_value (Fold AndBits) = refl
+how_has_value (Fold OrBits) = refl
+how_has_value (Fold Xor) = refl
+how_has_value (Fold Min) = refl
+how_has_value (Fold Max) = refl
 
 -- RANKS from the loosest on: of a tighter rank is of each looser one.
 abbrev rank_at : ℕ → Rank
@@ -93,8 +93,8 @@ rank_at (suc zero) = chain And
 rank_at (suc (suc zero)) = comparison
 rank_at (suc (suc (suc zero))) = chain Sum
 rank_at (suc (suc (suc (suc zero)))) = chain Product
-rank_at (suc (suc (suc (suc (suc zero))))) = prefixed
-rank_at (suc (suc (suc (suc (suc (suc n)))))) = alone
+rank_at (suc (suc (suc (suc (suc zero))))) = prefix_expression
+rank_at (suc (suc (suc (suc (suc (suc n)))))) = primary_expression
 
 looser : (n : ℕ) (ts left : List Lexeme) (e : Expression) → IsExpression (rank_at (suc n)) ts e left → IsExpression (rank_at n) ts e left
 looser zero ts left e d = one_operand d
@@ -115,8 +115,8 @@ loosened zero n ts left e (inr lt) d = absurd (omega arith)
 loosened (suc m) n ts left e (inr lt) d = loosened m n ts left e (up_to m n lt) (looser m ts left e d)
 
 -- what stands alone is of each rank
-from_alone : (n : ℕ) (ts left : List Lexeme) (e : Expression) → IsExpression alone ts e left → IsExpression (rank_at n) ts e left
-from_alone n ts left e d = loosened (suc (suc (suc (suc (suc (suc n)))))) n ts left e (inr (omega arith)) d
+from_primary : (n : ℕ) (ts left : List Lexeme) (e : Expression) → IsExpression primary_expression ts e left → IsExpression (rank_at n) ts e left
+from_primary n ts left e d = loosened (suc (suc (suc (suc (suc (suc n)))))) n ts left e (inr (omega arith)) d
 
 -- a chain is of the ranks below its level, and its operands are of the rank at it
 chain_loosened : (level : Level) (n : ℕ) (ts left : List Lexeme) (e : Expression) → n < chain_level level → IsExpression (chain level) ts e left
@@ -151,25 +151,25 @@ record Reads (ts : List Lexeme) (e : Expression) (ws : List Spelling) : Type 0 w
   tree : Expression
   at : ℕ → Place
   is : (n : ℕ) → n < level_of e → IsExpression (rank_at n) ts tree (placed at ws)
-  same : bare tree ≡ bare e
+  same : expression_without_places tree ≡ expression_without_places e
 
 record ReadsAt (rank : Rank) (ts : List Lexeme) (e : Expression) (ws : List Spelling) : Type 0 where
   tree : Expression
   at : ℕ → Place
   is : IsExpression rank ts tree (placed at ws)
-  same : bare tree ≡ bare e
+  same : expression_without_places tree ≡ expression_without_places e
 
 record ReadsBrackets (ts : List Lexeme) (e : Expression) (ws : List Spelling) : Type 0 where
   tree : Expression
   at : ℕ → Place
   is : IsBracketed ts tree (placed at ws)
-  same : bare tree ≡ bare e
+  same : expression_without_places tree ≡ expression_without_places e
 
 record ReadsLinks (level : Level) (ts : List Lexeme) (links : Links) (ws : List Spelling) : Type 0 where
   tree : Links
   at : ℕ → Place
   is : IsLinks level ts tree (placed at ws)
-  same : bare_links tree ≡ bare_links links
+  same : links_without_places tree ≡ links_without_places links
   some : HasLink links → HasLink tree
 
 -- at each place, whatever follows
@@ -177,7 +177,7 @@ abbrev ReadsWords : Expression → Type 0
 ReadsWords e = (at : ℕ → Place) (ws : List Spelling) → Reads (placed at (words_of e ws)) e ws
 
 -- of the loosest rank
-at_any : {ts : List Lexeme} {e : Expression} {ws : List Spelling} → Reads ts e ws → ReadsAt any ts e ws
+at_any : {ts : List Lexeme} {e : Expression} {ws : List Spelling} → Reads ts e ws → ReadsAt lowest_rank ts e ws
 at_any {e} r = record { tree = r.tree; at = r.at; is = r.is 0 (some_level e); same = r.same }
 
 -- in brackets
@@ -203,19 +203,19 @@ an_operand n e true at ws fits read =
     record {
       tree = r.tree;
       at = r.at;
-      is = from_alone n (placed at (bracketed_words (words_of e) ws)) (placed r.at ws) r.tree (in_brackets r.is);
+      is = from_primary n (placed at (bracketed_words (words_of e) ws)) (placed r.at ws) r.tree (in_brackets r.is);
       same = r.same;
     }
 
 -- what stands alone is read at each rank
-read_alone : {ts : List Lexeme} {e : Expression} {ws : List Spelling} (tree : Expression) (at : ℕ → Place) → IsExpression alone ts tree (placed at ws)
-    → bare tree ≡ bare e → Reads ts e ws
-read_alone {ts} {ws} tree at d same =
-    record { tree = tree; at = at; is = λ n lt. from_alone n ts (placed at ws) tree d; same = same }
+read_primary : {ts : List Lexeme} {e : Expression} {ws : List Spelling} (tree : Expression) (at : ℕ → Place) → IsExpression primary_expression ts tree (placed at ws)
+    → expression_without_places tree ≡ expression_without_places e → Reads ts e ws
+read_primary {ts} {ws} tree at d same =
+    record { tree = tree; at = at; is = λ n lt. from_primary n ts (placed at ws) tree d; same = same }
 
 -- what has a prefix operator
 read_prefixed : {ts : List Lexeme} {e : Expression} {ws : List Spelling} (tree : Expression) (at : ℕ → Place) → level_of e ≡ 6
-    → IsExpression prefixed ts tree (placed at ws) → bare tree ≡ bare e → Reads ts e ws
+    → IsExpression prefix_expression ts tree (placed at ws) → expression_without_places tree ≡ expression_without_places e → Reads ts e ws
 read_prefixed {ts} {e} {ws} tree at six d same =
     record {
       tree = tree;
@@ -234,32 +234,32 @@ chain_of level ts mid left first (link s place e more) some d links = chained d 
 mutual
   expression : (e : Expression) → IsWritable e → (at : ℕ → Place) (ws : List Spelling) → Reads (placed at (words_of e ws)) e ws
   expression (Number place value) h at ws =
-      read_alone (Number (at 0) value) (later at) (number (placed_word (at 0) (spelt (NumberToken value) (signed_decimal value))) refl) refl
+      read_primary (Number (at 0) value) (later at) (number (placed_word (at 0) (spelt (NumberToken value) (signed_decimal value))) refl) refl
   expression (Name place word) h at ws =
-      read_alone (Name (at 0) word) (later at) (name (placed_word (at 0) (spelt NameToken word)) refl) refl
+      read_primary (Name (at 0) word) (later at) (name (placed_word (at 0) (spelt NameToken word)) refl) refl
   expression (Field place word arg) h at ws =
       let r = brackets arg (later at) ws (expression arg h.1) in
-      read_alone (Field (at 0) word r.tree) r.at (field (placed_word (at 0) (spelt NameToken word)) refl r.is)
+      read_primary (Field (at 0) word r.tree) r.at (field (placed_word (at 0) (spelt NameToken word)) refl r.is)
       (ap (Field nowhere word) r.same)
   expression (Call place fun arg) h at ws =
       let r = brackets arg (later at) ws (expression arg h) in
-      read_alone (Call (at 0) fun r.tree) r.at (call (placed_word (at 0) (spelt (fun_token fun) (fun_word fun))) (fun_stands fun) r.is)
+      read_primary (Call (at 0) fun r.tree) r.at (call (placed_word (at 0) (spelt (fun_token fun) (fun_word fun))) (fun_has_value fun) r.is)
       (ap (Call nowhere fun) r.same)
   expression (Towards place arg to) h at ws =
       let close : Spelling = spelt close_bracket (codes ")") in
       let mid : Spelling = spelt comma (codes ",") in
       let a = at_any (expression arg h.0 (later (later at)) (mid ∷ words_of to (close ∷ ws))) in
       let b = at_any (expression to h.1 (later a.at) (close ∷ ws)) in
-      read_alone (Towards (at 0) a.tree b.tree) (later b.at)
+      read_primary (Towards (at 0) a.tree b.tree) (later b.at)
       (towards (placed_word (at 0) (spelt towards_word (codes "towards"))) (placed_word (at 1) (spelt open_bracket (codes "(")))
       (placed_word (a.at 0) mid) (placed_word (b.at 0) close) refl refl a.is refl b.is refl)
       (ap₂ (Towards nowhere) a.same b.same)
   expression (Neg place arg) h at ws =
       let r = an_operand 5 arg (nat_lt (level_of arg) 6) (later at) ws (ltb-false (level_of arg) 6) (expression arg h) in
-      read_prefixed (Neg (at 0) r.tree) r.at refl (negated (placed_word (at 0) (spelt minus (codes "-"))) refl r.is) (ap (Neg nowhere) r.same)
+      read_prefixed (Neg (at 0) r.tree) r.at refl (negation (placed_word (at 0) (spelt minus (codes "-"))) refl r.is) (ap (Neg nowhere) r.same)
   expression (Not place arg) h at ws =
       let r = an_operand 5 arg (nat_lt (level_of arg) 6) (later at) ws (ltb-false (level_of arg) 6) (expression arg h) in
-      read_prefixed (Not (at 0) r.tree) r.at refl (denied (placed_word (at 0) (spelt bang (codes "!"))) refl r.is) (ap (Not nowhere) r.same)
+      read_prefixed (Not (at 0) r.tree) r.at refl (logical_not (placed_word (at 0) (spelt bang (codes "!"))) refl r.is) (ap (Not nowhere) r.same)
   expression (Chain level first more) h at ws =
       let n = chain_level level in
       let a = an_operand n first (nat_le (level_of first) n) at (links_words n more ws) (leb-false (level_of first) n) (expression first h.0) in
@@ -280,7 +280,7 @@ mutual
       let a = an_operand 3 left (nat_le (level_of left) 3) at (operator ∷ rest) (leb-false (level_of left) 3) (expression left h.0) in
       let b = an_operand 3 right (nat_le (level_of right) 3) (later a.at) ws (leb-false (level_of right) 3) (expression right h.1) in
       let tree = Compare (a.at 0) rel a.tree b.tree in
-      let d = compared (placed_word (a.at 0) operator) a.is (rel_stands rel) b.is in
+      let d = compared (placed_word (a.at 0) operator) a.is (rel_has_value rel) b.is in
       record {
         tree = tree;
         at = b.at;
@@ -313,9 +313,9 @@ record ReadsClosed (ts : List Lexeme) (e : Expression) (ws : List Spelling) : Ty
   tree : Expression
   mid : List Lexeme
   at : ℕ → Place
-  is : IsExpression any ts tree mid
+  is : IsExpression lowest_rank ts tree mid
   close : Closes mid (placed at ws)
-  same : bare tree ≡ bare e
+  same : expression_without_places tree ≡ expression_without_places e
 
 closed : (e : Expression) → IsWritable e → (at : ℕ → Place) (ws : List Spelling) → ReadsClosed (placed at (closed_words e ws)) e ws
 closed e h at ws =
@@ -338,7 +338,7 @@ record ReadsDeclared (word : TokenKind) (ts : List Lexeme) (name : List ℕ) (in
   at : ℕ → Place
   is : IsDeclared word ts first second tree (placed at ws)
   named : second.bytes ≡ name
-  same : bare tree ≡ bare init
+  same : expression_without_places tree ≡ expression_without_places init
 
 a_declaration : (kind : TokenKind) (word called : List ℕ) (init : Expression) → IsWritable init → (at : ℕ → Place) (ws : List Spelling)
     → ReadsDeclared kind (placed at (declared_words kind word called init ws)) called init ws
@@ -361,7 +361,7 @@ record ReadsTarget (ts : List Lexeme) (to : Option Expression) (ws : List Spelli
   tree : Option Expression
   at : ℕ → Place
   is : IsTarget ts tree (placed at ws)
-  same : option_map bare tree ≡ option_map bare to
+  same : option_map expression_without_places tree ≡ option_map expression_without_places to
 
 a_target : (to : Option Expression) → IsWritableTarget to → (at : ℕ → Place) (ws : List Spelling)
     → ReadsTarget (placed at (target_words to ws)) to ws
@@ -375,30 +375,30 @@ record ReadsStatement (ts : List Lexeme) (s : Statement) (ws : List Spelling) : 
   tree : Statement
   at : ℕ → Place
   is : IsStatement ts tree (placed at ws)
-  same : bare_statement tree ≡ bare_statement s
+  same : statement_without_places tree ≡ statement_without_places s
 
 record ReadsBody (ts : List Lexeme) (body : Body) (ws : List Spelling) : Type 0 where
   tree : Body
   at : ℕ → Place
   is : IsBody ts tree (placed at ws)
-  same : bare_body tree ≡ bare_body body
+  same : body_without_places tree ≡ body_without_places body
 
 record ReadsBlock (ts : List Lexeme) (body : Body) (ws : List Spelling) : Type 0 where
   tree : Body
   at : ℕ → Place
   is : IsBlock ts tree (placed at ws)
-  same : bare_body tree ≡ bare_body body
+  same : body_without_places tree ≡ body_without_places body
 
 -- a block, up to its `}`
 record ReadsElse (ts : List Lexeme) (has_else : Bool) (body : Body) (ws : List Spelling) : Type 0 where
   close : Lexeme
   mid : List Lexeme
   begins : ts ≡ close ∷ mid
-  closes : close.kind ≡ close_brace
+  is_closing : close.kind ≡ close_brace
   tree : Body
   at : ℕ → Place
   is : IsElse mid tree has_else (placed at ws)
-  same : bare_body tree ≡ bare_body body
+  same : body_without_places tree ≡ body_without_places body
 
 abbrev ReadsBodies : Body → Type 0
 ReadsBodies body = (at : ℕ → Place) (ws : List Spelling) → ReadsBody (placed at (body_words body ws)) body ws
@@ -421,11 +421,11 @@ an_else false body none at ws read =
       close = placed_word (at 0) (spelt close_brace (codes "}"));
       mid = placed (later at) ws;
       begins = refl;
-      closes = refl;
+      is_closing = refl;
       tree = no_statement;
       at = later at;
       is = no_else;
-      same = ap bare_body (sym none);
+      same = ap body_without_places (sym none);
     }
 an_else true body some at ws read =
     let r = a_block body (later (later at)) ws read in
@@ -433,7 +433,7 @@ an_else true body some at ws read =
       close = placed_word (at 0) (spelt close_brace (codes "}"));
       mid = placed (later at) (spelt else_word (codes "else") ∷ spelt open_brace (codes "{") ∷ body_words body (ended_words ws));
       begins = refl;
-      closes = refl;
+      is_closing = refl;
       tree = r.tree;
       at = r.at;
       is = else (placed_word (at 1) (spelt else_word (codes "else"))) refl r.is;
@@ -445,8 +445,8 @@ an_if : (w o : Lexeme) (ts mid mid' left rest : List Lexeme) (test : Expression)
     → w.kind ≡ if_word
     → IsBracketed ts test (o ∷ mid) → o.kind ≡ open_brace → IsBody mid first mid' → mid' ≡ c ∷ rest → c.kind ≡ close_brace
     → IsElse rest second has_else left → IsStatement (w ∷ ts) (If w.place test first second has_else) left
-an_if w o ts mid mid' left rest test first second has_else c is d opened body begins closes other =
-    if w is d (block o c opened (subst (λ l. IsBody mid first l) begins body) closes) other
+an_if w o ts mid mid' left rest test first second has_else c is d opened body begins is_closing other =
+    if w is d (block o c opened (subst (λ l. IsBody mid first l) begins body) is_closing) other
 
 mutual
   a_statement : (s : Statement) → IsWritableStatement s → (at : ℕ → Place) (ws : List Spelling)
@@ -475,7 +475,7 @@ mutual
         tree = Assign (at 0) word a.tree how b.tree;
         at = b.at;
         is =
-            assign (placed_word (at 0) (spelt NameToken word)) (placed_word (a.at 0) operator) refl a.is (how_stands how) b.is b.close;
+            assign (placed_word (at 0) (spelt NameToken word)) (placed_word (a.at 0) operator) refl a.is (how_has_value how) b.is b.close;
         same = ap₂ (λ t e. Assign nowhere word t how e) a.same b.same;
       }
   a_statement (If place test first second has_else) h at ws =
@@ -491,10 +491,10 @@ mutual
         is =
             an_if w (placed_word (a.at 0) open_word) (placed (later at) (bracketed_words (words_of test) (open_word ∷ body_words first rest)))
             (placed (later a.at) (body_words first rest)) (placed b.at rest) (placed c.at ws) c.mid a.tree b.tree c.tree has_else c.close refl
-            a.is refl b.is c.begins c.closes c.is;
+            a.is refl b.is c.begins c.is_closing c.is;
         same =
-            ap₂ (λ t f. If nowhere t f (bare_body c.tree) has_else) a.same b.same
-            ∙ ap (λ s. If nowhere (bare test) (bare_body first) s has_else) c.same;
+            ap₂ (λ t f. If nowhere t f (body_without_places c.tree) has_else) a.same b.same
+            ∙ ap (λ s. If nowhere (expression_without_places test) (body_without_places first) s has_else) c.same;
       }
   a_statement (While place test body) h at ws =
       let open_word : Spelling = spelt open_brace (codes "{") in
@@ -519,7 +519,7 @@ mutual
             for (placed_word (at 0) (spelt for_word (codes "for"))) (placed_word (at 1) (spelt open_bracket (codes "(")))
             (placed_word (at 2) (spelt NameToken word)) (placed_word (at 3) (spelt arrow (codes "<-")))
             (placed_word (at 4) (spelt (set_token set) (set_word set))) (placed_word (a.at 0) close)
-            refl refl refl refl (set_stands set) a.is refl b.is;
+            refl refl refl refl (set_has_value set) a.is refl b.is;
         same = ap₂ (λ e f. For nowhere word nowhere set nowhere e f) a.same b.same;
       }
 
@@ -535,29 +535,29 @@ record ReadsItem (ts : List Lexeme) (i : MainItem) (ws : List Spelling) : Type 0
   tree : MainItem
   at : ℕ → Place
   is : IsItem ts tree (placed at ws)
-  same : bare_item tree ≡ bare_item i
+  same : item_without_places tree ≡ item_without_places i
 
 pub record ReadsMain (ts : List Lexeme) (body : Main) (ws : List Spelling) : Type 0 where
   pub tree : Main
   pub at : ℕ → Place
   pub is : IsMain ts tree (placed at ws)
-  pub same : bare_main tree ≡ bare_main body
+  pub same : main_without_places tree ≡ main_without_places body
 
 record ReadsMainBlock (ts : List Lexeme) (body : Main) (ws : List Spelling) : Type 0 where
   tree : Main
   at : ℕ → Place
   is : IsMainBlock ts tree (placed at ws)
-  same : bare_main tree ≡ bare_main body
+  same : main_without_places tree ≡ main_without_places body
 
 record ReadsMainElse (ts : List Lexeme) (has_else : Bool) (body : Main) (ws : List Spelling) : Type 0 where
   close : Lexeme
   mid : List Lexeme
   begins : ts ≡ close ∷ mid
-  closes : close.kind ≡ close_brace
+  is_closing : close.kind ≡ close_brace
   tree : Main
   at : ℕ → Place
   is : IsMainElse mid tree has_else (placed at ws)
-  same : bare_main tree ≡ bare_main body
+  same : main_without_places tree ≡ main_without_places body
 
 abbrev ReadsMains : Main → Type 0
 ReadsMains body = (at : ℕ → Place) (ws : List Spelling) → ReadsMain (placed at (main_words body ws)) body ws
@@ -581,11 +581,11 @@ a_main_else false body none at ws read =
       close = placed_word (at 0) (spelt close_brace (codes "}"));
       mid = placed (later at) ws;
       begins = refl;
-      closes = refl;
+      is_closing = refl;
       tree = no_item;
       at = later at;
       is = no_main_else;
-      same = ap bare_main (sym none);
+      same = ap main_without_places (sym none);
     }
 a_main_else true body some at ws read =
     let r = a_main_block body (later (later at)) ws read in
@@ -593,7 +593,7 @@ a_main_else true body some at ws read =
       close = placed_word (at 0) (spelt close_brace (codes "}"));
       mid = placed (later at) (spelt else_word (codes "else") ∷ spelt open_brace (codes "{") ∷ main_words body (ended_words ws));
       begins = refl;
-      closes = refl;
+      is_closing = refl;
       tree = r.tree;
       at = r.at;
       is = main_else (placed_word (at 1) (spelt else_word (codes "else"))) refl r.is;
@@ -604,8 +604,8 @@ a_main_if : (w o : Lexeme) (ts mid mid' left rest : List Lexeme) (test : Express
     → w.kind ≡ if_word
     → IsBracketed ts test (o ∷ mid) → o.kind ≡ open_brace → IsMain mid first mid' → mid' ≡ c ∷ rest → c.kind ≡ close_brace
     → IsMainElse rest second has_else left → IsItem (w ∷ ts) (MainIf w.place test first second has_else) left
-a_main_if w o ts mid mid' left rest test first second has_else c is d opened body begins closes other =
-    main_if w is d (main_block o c opened (subst (λ l. IsMain mid first l) begins body) closes) other
+a_main_if w o ts mid mid' left rest test first second has_else c is d opened body begins is_closing other =
+    main_if w is d (main_block o c opened (subst (λ l. IsMain mid first l) begins body) is_closing) other
 
 mutual
   an_item : (i : MainItem) → IsWritableItem i → (at : ℕ → Place) (ws : List Spelling) → ReadsItem (placed at (item_words i ws)) i ws
@@ -617,7 +617,7 @@ mutual
         is =
             main_field (placed_word (at 0) (spelt field_word (codes "field"))) (placed_word (at 1) (spelt NameToken word))
             (placed_word (at 2) (spelt colon (codes ":"))) (placed_word (at 3) (spelt (kind_token kind) (kind_word kind)))
-            (placed_word (at 4) (spelt set_to (codes "="))) refl refl refl (kind_stands kind) refl r.is r.close;
+            (placed_word (at 4) (spelt set_to (codes "="))) refl refl refl (kind_has_value kind) refl r.is r.close;
         same = ap (MainField nowhere word nowhere kind) r.same;
       }
   an_item (MainVar place word place' init) h at ws =
@@ -635,7 +635,7 @@ mutual
         at = r.at;
         is =
             main_assign (placed_word (at 0) (spelt NameToken word)) (placed_word (at 1) (spelt (how_token how) (how_text how))) refl
-            (how_stands how) r.is r.close;
+            (how_has_value how) r.is r.close;
         same = ap (MainAssign nowhere word how) r.same;
       }
   an_item (MainIf place test first second has_else) h at ws =
@@ -652,10 +652,10 @@ mutual
             a_main_if w (placed_word (a.at 0) open_word)
             (placed (later at) (bracketed_words (words_of test) (open_word ∷ main_words first rest)))
             (placed (later a.at) (main_words first rest)) (placed b.at rest) (placed c.at ws) c.mid a.tree b.tree c.tree has_else c.close refl
-            a.is refl b.is c.begins c.closes c.is;
+            a.is refl b.is c.begins c.is_closing c.is;
         same =
-            ap₂ (λ t f. MainIf nowhere t f (bare_main c.tree) has_else) a.same b.same
-            ∙ ap (λ s. MainIf nowhere (bare test) (bare_main first) s has_else) c.same;
+            ap₂ (λ t f. MainIf nowhere t f (main_without_places c.tree) has_else) a.same b.same
+            ∙ ap (λ s. MainIf nowhere (expression_without_places test) (main_without_places first) s has_else) c.same;
       }
   an_item (MainWhile place test body) h at ws =
       let open_word : Spelling = spelt open_brace (codes "{") in
@@ -675,9 +675,9 @@ mutual
         is =
             main_for (placed_word (at 0) (spelt for_word (codes "for"))) (placed_word (at 1) (spelt open_bracket (codes "(")))
             (placed_word (at 2) (spelt NameToken word)) (placed_word (at 3) (spelt arrow (codes "<-")))
-            (placed_word (at 4) (spelt (whole_token over) (whole_word over))) (placed_word (at 5) (spelt open_bracket (codes "(")))
+            (placed_word (at 4) (spelt (whole_token over) (mesh_set_word over))) (placed_word (at 5) (spelt open_bracket (codes "(")))
             (placed_word (at 6) (spelt mesh_word (codes "mesh"))) (placed_word (at 7) (spelt close_bracket (codes ")")))
-            (placed_word (at 8) (spelt close_bracket (codes ")"))) refl refl refl refl (whole_stands over) refl refl refl refl b.is;
+            (placed_word (at 8) (spelt close_bracket (codes ")"))) refl refl refl refl (whole_has_value over) refl refl refl refl b.is;
         same = ap (MainFor nowhere word nowhere over) b.same;
       }
   an_item (Print place value) h at ws =

@@ -8,8 +8,8 @@ use Rattle.liszt_base.specs.declared.elements.SetName.{SetName}
 use Rattle.liszt_base.specs.declared.elements.SetName.TheVariants.{Vertices, Edges, Faces, Cells, EdgesCcw}
 use Rattle.liszt_lexer.specs.declared.token.TokenKind.{TokenKind}
 use Rattle.liszt_lexer.specs.declared.token.TokenKind.TheVariants.{Name as NameToken, Number as NumberToken, Word, Symbol, MinSet, MaxSet}
-use Rattle.liszt_lexer.proofs.Spellings.{Spelling, IsSpelling}
-use Rattle.liszt_lexer.proofs.Stops.{IsSmall}
+use Rattle.liszt_lexer.proofs.SpellingLemmas.{Spelling, IsSpelling}
+use Rattle.liszt_lexer.proofs.TokenEndLemmas.{IsSmall}
 use Rattle.liszt_tree.specs.declared.tree.Fun.{Fun}
 use Rattle.liszt_tree.specs.declared.tree.Fun.TheVariants.{Head, Tail, Inside, Outside, Flip, Valid, Id}
 use Rattle.liszt_tree.specs.declared.tree.How.{How}
@@ -19,7 +19,7 @@ use Rattle.liszt_tree.specs.declared.tree.Rel.{Rel}
 use Rattle.liszt_tree.specs.declared.tree.Rel.TheVariants.{Same, Other, Below, AtMost, Above, AtLeast}
 use Rattle.liszt_tree.specs.declared.tree.Sign.{Sign}
 use Rattle.liszt_tree.specs.declared.tree.Sign.TheVariants as sign
-use Rattle.liszt_tree.specs.Canonical.{kind_word, whole_word, set_word, fun_word, how_text, sign_text, rel_text, chain_level, level_of}
+use Rattle.liszt_tree.specs.Canonical.{kind_word, mesh_set_word, set_word, fun_word, how_text, sign_text, rel_text, chain_level, level_of}
 use Rattle.liszt_tree.specs.Tree.{Expression, Number, Name, Field, Call, Towards, Neg, Not, Chain, Compare, Links, no_links, link, Statement, Var, Val, Assign, If, While, For, Body, no_statement, statement, MainItem, MainField, MainVar, MainAssign, MainIf, MainWhile, MainFor, Print, Main, no_item, item}
 use Rattle.liszt_parser.specs.Grammar.{open_bracket, close_bracket, open_brace, close_brace, comma, semicolon, colon, arrow, minus, bang, set_to, field_word, var_word, val_word, if_word, else_word, while_word, for_word, print_word, mesh_word, towards_word, sign_of}
 
@@ -171,7 +171,7 @@ abbrev mutual
   item_words (MainWhile place test body) ws = headed_words while_word (codes "while") test (main_words body (ended_words ws))
   item_words (MainFor place name at over body) ws =
       spelt for_word (codes "for") ∷ spelt open_bracket (codes "(") ∷ spelt NameToken name ∷ spelt arrow (codes "<-")
-      ∷ spelt (whole_token over) (whole_word over) ∷ spelt open_bracket (codes "(") ∷ spelt mesh_word (codes "mesh")
+      ∷ spelt (whole_token over) (mesh_set_word over) ∷ spelt open_bracket (codes "(") ∷ spelt mesh_word (codes "mesh")
       ∷ spelt close_bracket (codes ")") ∷ spelt close_bracket (codes ")") ∷ spelt open_brace (codes "{")
       ∷ body_words body (ended_words ws)
   item_words (Print place value) ws = spelt print_word (codes "print") ∷ closed_words value ws

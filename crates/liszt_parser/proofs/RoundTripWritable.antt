@@ -3,14 +3,14 @@ use Rattle.std.proofs.Common.{◌≡◌, Bool, Option, Some, ℤ, List, [], ◌�
 use Rattle.std.specs.List.{AllByRecursion}
 use Rattle.liszt_lexer.specs.declared.token.TokenKind.{TokenKind}
 use Rattle.liszt_lexer.specs.declared.token.TokenKind.TheVariants.{Name as NameToken, Number as NumberToken}
-use Rattle.liszt_lexer.proofs.Spellings.{IsSpelling}
-use Rattle.liszt_lexer.proofs.Stops.{IsSmall, number_is_small}
+use Rattle.liszt_lexer.proofs.SpellingLemmas.{IsSpelling}
+use Rattle.liszt_lexer.proofs.TokenEndLemmas.{IsSmall, number_is_small}
 use Rattle.liszt_tree.specs.declared.tree.Level.{Level}
 use Rattle.liszt_tree.specs.declared.tree.Level.TheVariants.{Or, And, Sum, Product}
 use Rattle.liszt_tree.specs.declared.tree.Sign.{Sign}
 use Rattle.liszt_tree.specs.declared.tree.Sign.TheVariants as sign
 use Rattle.liszt_tree.specs.Tree.{Expression, Links, Statement, Body, MainItem, Main}
-use Rattle.liszt_parser.specs.Grammar.{Lexeme, Rank, sign_of, IsExpression, one_operand, chained, one_sum, compared, no_prefix, negated, denied, number, name, field, call, towards, in_brackets, IsLinks, no_more_links, linked, IsBracketed, bracketed, Closes, by_semicolon, by_brace, by_end, IsDeclared, is_declared, IsTarget, no_target, target, IsStatement, var, val, assign, if, while, for, IsBody, no_statements, statements, IsBlock, block, IsElse, no_else, else, IsItem, main_field, main_var, main_assign, main_if, main_while, main_for, print, IsMain, no_items, items, IsMainBlock, main_block, IsMainElse, no_main_else, main_else}
+use Rattle.liszt_parser.specs.Grammar.{Lexeme, Rank, sign_of, IsExpression, one_operand, chained, one_sum, compared, no_prefix, negation, logical_not, number, name, field, call, towards, in_brackets, IsLinks, no_more_links, linked, IsBracketed, bracketed, Closes, by_semicolon, by_brace, by_end, IsDeclared, is_declared, IsTarget, no_target, target, IsStatement, var, val, assign, if, while, for, IsBody, no_statements, statements, IsBlock, block, IsElse, no_else, else, IsItem, main_field, main_var, main_assign, main_if, main_while, main_for, print, IsMain, no_items, items, IsMainBlock, main_block, IsMainElse, no_main_else, main_else}
 use Rattle.liszt_parser.proofs.RoundTripTables.{table_symbol}
 use Rattle.liszt_parser.proofs.RoundTripWords.{sign_token, IsWritable, AreWritable, IsWritableTarget, IsElseOf, IsMainElseOf, IsWritableStatement, IsWritableBody, IsWritableItem, IsWritableMain}
 
@@ -49,8 +49,8 @@ mutual
       let b = expression e a.1.1 in
       ((a.0, b.0), b.1)
   expression (no_prefix d) known = expression d known
-  expression (negated t is d) known = expression d known.1
-  expression (denied t is d) known = expression d known.1
+  expression (negation t is d) known = expression d known.1
+  expression (logical_not t is d) known = expression d known.1
   expression (number {n} t is) known = (small t n is known.0, known.1)
   expression (name t is) known = (named t is known.0, known.1)
   expression (field t is d) known = let a = brackets d known.1 in ((named t is known.0, a.0), a.1)
@@ -73,16 +73,16 @@ mutual
   brackets (bracketed o c is d close) known = let a = expression d known.1 in (a.0, a.1.1)
 
 -- what closes a statement leaves spelled tokens
-closes : {ts left : List Lexeme} → Closes ts left → AreSpelled ts → AreSpelled left
-closes (by_semicolon t is) known = known.1
-closes (by_brace t is) known = known
-closes by_end known = tt
+is_closing : {ts left : List Lexeme} → Closes ts left → AreSpelled ts → AreSpelled left
+is_closing (by_semicolon t is) known = known.1
+is_closing (by_brace t is) known = known
+is_closing by_end known = tt
 
-declared : {word : TokenKind} {ts left : List Lexeme} {w n : Lexeme} {e : Expression} → IsDeclared word ts w n e left → AreSpelled ts
+declaration : {word : TokenKind} {ts left : List Lexeme} {w n : Lexeme} {e : Expression} → IsDeclared word ts w n e left → AreSpelled ts
     → (IsSpelling NameToken n.bytes × IsWritable e) × AreSpelled left
-declared (is_declared w n s is called set d close) known =
+declaration (is_declared w n s is called set d close) known =
     let a = expression d known.1.1.1 in
-    ((named n called known.1.0, a.0), closes close a.1)
+    ((named n called known.1.0, a.0), is_closing close a.1)
 
 targeted : {ts left : List Lexeme} {to : Option Expression} → IsTarget ts to left → AreSpelled ts → IsWritableTarget to × AreSpelled left
 targeted no_target known = (tt, known)
@@ -91,12 +91,12 @@ targeted (target d) known = brackets d known
 -- STATEMENTS, bodies, blocks and what follows an `if`
 mutual
   a_statement : {ts left : List Lexeme} {s : Statement} → IsStatement ts s left → AreSpelled ts → IsWritableStatement s × AreSpelled left
-  a_statement (var d) known = declared d known
-  a_statement (val d) known = declared d known
+  a_statement (var d) known = declaration d known
+  a_statement (val d) known = declaration d known
   a_statement (assign n h is to how d close) known =
       let a = targeted to known.1 in
       let b = expression d a.1.1 in
-      ((named n is known.0, a.0, b.0), closes close b.1)
+      ((named n is known.0, a.0, b.0), is_closing close b.1)
   a_statement (if w is test first second) known =
       let a = brackets test known.1 in
       let b = a_block first a.1 in
@@ -131,11 +131,11 @@ mutual
   an_item : {ts left : List Lexeme} {i : MainItem} → IsItem ts i left → AreSpelled ts → IsWritableItem i × AreSpelled left
   an_item (main_field w n d k s is called colon kind set e close) known =
       let a = expression e known.1.1.1.1.1 in
-      ((named n called known.1.0, a.0), closes close a.1)
-  an_item (main_var d) known = declared d known
+      ((named n called known.1.0, a.0), is_closing close a.1)
+  an_item (main_var d) known = declaration d known
   an_item (main_assign n h is how d close) known =
       let a = expression d known.1.1 in
-      ((named n is known.0, a.0), closes close a.1)
+      ((named n is known.0, a.0), is_closing close a.1)
   an_item (main_if w is test first second) known =
       let a = brackets test known.1 in
       let b = a_main_block first a.1 in
@@ -148,7 +148,7 @@ mutual
   an_item (main_for w o n a k p m q c is opened called arrow whole inner mesh close close' body) known =
       let b = a_block body known.1.1.1.1.1.1.1.1.1 in
       ((named n called known.1.1.0, b.0), b.1)
-  an_item (print w is d close) known = let a = expression d known.1 in (a.0, closes close a.1)
+  an_item (print w is d close) known = let a = expression d known.1 in (a.0, is_closing close a.1)
 
   a_main : {ts left : List Lexeme} {tree : Main} → IsMain ts tree left → AreSpelled ts → IsWritableMain tree × AreSpelled left
   a_main no_items known = (tt, known)

@@ -8,16 +8,17 @@ use Rattle.liszt_base.specs.declared.answers.ProgramWhat.TheVariants.{Syntax, De
 use Rattle.liszt_tree.specs.Tree.{Main}
 use Rattle.liszt_parser.specs.Depth.{depth}
 use Rattle.liszt_parser.specs.Grammar.{Lexeme, Derives}
-use Rattle.liszt_parser.specs.Nesting.{IsFirstDeep}
+use Rattle.liszt_parser.specs.Internal.Nesting.{IsFirstDeep}
 use Rattle.liszt_parser.specs.ParseFault.{IsSyntaxAt, IsShallow, IsParseFault, place_of, fault_at}
-use Rattle.liszt_parser.specs.Productions.{mains}
-use Rattle.liszt_parser.proofs.Known.{Known}
-use Rattle.liszt_parser.proofs.KnownItems.{known_mains}
+use Rattle.liszt_parser.specs.Internal.Productions.{mains}
+use Rattle.liszt_parser.proofs.ReadOrStuck.{ReadOrStuck}
+use Rattle.liszt_parser.proofs.ReadOrStuckItems.{known_mains}
 use Rattle.liszt_parser.proofs.ProgramReading.{program_read, something_left, program_fails}
-use Rattle.liszt_parser.specs.Reading.{IsRead, IsStuck}
+use Rattle.liszt_parser.specs.Internal.Reading.{IsRead, IsStuck}
 use Rattle.liszt_base.specs.declared.answers.Refused.TheVariants.{Fault}
 use Rattle.std.proofs.Math.Seq.{drop-append_seam}
-use Rattle.liszt_parser.proofs.Parsed.{syntax_alone, syntax_first, deep_of_program, deep_at_end}
+use Rattle.liszt_parser.proofs.ParsedLemmas.{syntax_primary, syntax_first, deep_of_program, deep_at_end}
+use Rattle.liszt_base.specs.Limits.{depth_limit}
 
 -- THE FIRST TOKEN that is too deep is found, if there is one, among any front
 DeepIn : List Lexeme → ℕ → Type 0
@@ -27,15 +28,15 @@ deep_in : (ts : List Lexeme) (n : ℕ) → n ≤ length ts → DeepIn ts n
 unfolding DeepIn
 deep_in ts zero le = inl (λ place lt within. absurd (omega (arith, lt)))
 deep_in ts (suc n) le = go (deep_in ts n (omega arith)) where
-  at : IsShallow ts n → (b : Bool) → nat_lt 64 (depth (take (n + 1) ts)) ≡ b → DeepIn ts (suc n)
-  at shallow true is = inr (n, (shallow, omega arith, ltb-true 64 (depth (take (n + 1) ts)) is))
+  at : IsShallow ts n → (b : Bool) → nat_lt depth_limit (depth (take (n + 1) ts)) ≡ b → DeepIn ts (suc n)
+  at shallow true is = inr (n, (shallow, omega arith, ltb-true depth_limit (depth (take (n + 1) ts)) is))
   at shallow false is =
       let more : n + 1 ≡ suc n = omega arith in
       inl (subst (λ m. IsShallow ts m) more
-      (below_more (λ k. k < length ts → depth (take (k + 1) ts) ≤ 64) n shallow (λ within. ltb-false 64 (depth (take (n + 1) ts)) is)))
+      (below_more (λ k. k < length ts → depth (take (k + 1) ts) ≤ depth_limit) n shallow (λ within. ltb-false depth_limit (depth (take (n + 1) ts)) is)))
 
   go : DeepIn ts n → DeepIn ts (suc n)
-  go (inl shallow) = at shallow (nat_lt 64 (depth (take (n + 1) ts))) refl
+  go (inl shallow) = at shallow (nat_lt depth_limit (depth (take (n + 1) ts))) refl
   go (inr deep) = inr deep
 
 first_deep : (ts : List Lexeme) → (place : Option ℕ) × IsFirstDeep ts place
@@ -56,9 +57,9 @@ within ts front left e =
     (few, ap (drop (length front)) e ∙ drop-append_seam front left)
 
 known_program : (ts : List Lexeme) → Reading ts
-unfolding Reading Known
+unfolding Reading ReadOrStuck
 known_program ts = go (known_mains ts) where
-  go : Known mains ts → Reading ts
+  go : ReadOrStuck mains ts → Reading ts
   go (inl (tree, [], d)) = inl (tree, program_read ts [] tree refl d)
   go (inl (tree, t ∷ left, d)) =
       let w = within ts d.front (t ∷ left) d.parts in
@@ -70,9 +71,9 @@ known_program ts = go (known_mains ts) where
 pub some_fault : (ts : List Lexeme) (ending : Place) → (fault : Option ProgramFault) × IsParseFault ts ending fault
 unfolding Reading
 some_fault ts ending = go (first_deep ts) where
-  alone : IsShallow ts (length ts) → Reading ts → (fault : Option ProgramFault) × IsParseFault ts ending fault
-  alone shallow (inl r) = (None, ((r.0, r.1), shallow))
-  alone shallow (inr s) = (Some (fault_at Syntax (place_of ts ending s.0)), syntax_alone ts ending s.0 shallow s.1)
+  primary_expression : IsShallow ts (length ts) → Reading ts → (fault : Option ProgramFault) × IsParseFault ts ending fault
+  primary_expression shallow (inl r) = (None, ((r.0, r.1), shallow))
+  primary_expression shallow (inr s) = (Some (fault_at Syntax (place_of ts ending s.0)), syntax_primary ts ending s.0 shallow s.1)
 
   stuck : (deep place : ℕ) → IsFirstDeep ts (Some deep) → IsSyntaxAt (take (deep + 1) ts) place → (b : Bool) → nat_lt deep place ≡ b
       → (fault : Option ProgramFault) × IsParseFault ts ending fault
@@ -84,5 +85,5 @@ some_fault ts ending = go (first_deep ts) where
   up_to deep first (inr s) = stuck deep s.0 first s.1 (nat_lt deep s.0) refl
 
   go : (place : Option ℕ) × IsFirstDeep ts place → (fault : Option ProgramFault) × IsParseFault ts ending fault
-  go (None, shallow) = alone shallow (known_program ts)
+  go (None, shallow) = primary_expression shallow (known_program ts)
   go (Some deep, first) = up_to deep first (known_program (take (deep + 1) ts))

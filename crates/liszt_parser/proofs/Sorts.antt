@@ -8,8 +8,8 @@ use Rattle.liszt_tree.specs.declared.tree.Level.{Level}
 use Rattle.liszt_tree.specs.declared.tree.Level.TheVariants.{Or, And, Sum, Product}
 use Rattle.liszt_tree.specs.declared.tree.Rel.{Rel}
 use Rattle.liszt_tree.specs.declared.tree.Sign.{Sign}
-use Rattle.liszt_parser.specs.Grammar.{Lexeme, any, fun_of, sign_of, rel_of, open_bracket, close_bracket, close_brace, comma, minus, bang, field_word, var_word, val_word, if_word, else_word, while_word, for_word, print_word, towards_word, Closes, by_semicolon, by_brace, by_end}
-use Rattle.liszt_parser.specs.Sorts.{Sort, Stops, a_bang, a_call, a_field, a_for, a_minus, a_name, a_number, a_print, a_towards, a_val, a_var, a_while, an_else, an_end, an_if, an_open, another, level_strength, sort_by, sort_of, sort_or, strength, strength_or}
+use Rattle.liszt_parser.specs.Grammar.{Lexeme, lowest_rank, fun_of, sign_of, rel_of, open_bracket, close_bracket, close_brace, comma, minus, bang, field_word, var_word, val_word, if_word, else_word, while_word, for_word, print_word, towards_word, Closes, by_semicolon, by_brace, by_end}
+use Rattle.liszt_parser.specs.Internal.Sorts.{Sort, Stops, a_bang, a_call, a_field, a_for, a_minus, a_name, a_number, a_print, a_towards, a_val, a_var, a_while, an_else, an_end, an_if, an_open, another, level_strength, sort_by, sort_of, sort_or, strength, strength_or}
 
 -- the sort of each kind of token that begins a production
 pub sort_number : {kind : TokenKind} {n : ℤ} → kind ≡ NumberToken n → sort_of kind ≡ a_number n
@@ -130,7 +130,7 @@ unfolding strength strength_or
 comma_strength e = ap strength e
 
 -- what closes a statement goes on with no expression
-pub closes_stops : {mid left : List Lexeme} → Closes mid left → Stops any mid
+pub closes_stops : {mid left : List Lexeme} → Closes mid left → Stops lowest_rank mid
 unfolding strength strength_or
 closes_stops (by_semicolon t h) = let zero_is : strength t.kind ≡ 0 = ap strength h in omega arith
 closes_stops (by_brace t h) = let zero_is : strength t.kind ≡ 0 = ap strength h in omega arith

@@ -6,17 +6,17 @@ use Rattle.liszt_lexer.specs.declared.token.TokenKind.{TokenKind}
 use Rattle.liszt_lexer.specs.declared.token.TokenKind.TheVariants.{Name as NameToken}
 use Rattle.liszt_tree.specs.declared.tree.How.{How}
 use Rattle.liszt_tree.specs.Tree.{Expression, Statement, Assign, If, Body, no_statement}
-use Rattle.liszt_parser.specs.Grammar.{Lexeme, any, how_of, set_of, open_bracket, close_bracket, arrow, set_to, var_word, val_word, if_word, else_word, while_word, for_word, IsExpression, IsBracketed, IsDeclared, is_declared, IsTarget, no_target, target, IsStatement, var, val, assign, if, while, for, IsBlock, IsElse, no_else, else}
-use Rattle.liszt_parser.specs.Reading.{Reader, SameHead, HeadIs, Is, NotFirst, token, chosen, ◌then◌, Maybe}
-use Rattle.liszt_parser.specs.Sorts.{a_var, a_val, an_if, a_while, a_for, NoElse}
-use Rattle.liszt_parser.specs.Productions.{brackets, arguments, statements, blocks, closed, declared, elses, variables_tree, constants_tree, assignments_tree, branches_tree, repetitions_tree, set_loops_tree}
+use Rattle.liszt_parser.specs.Grammar.{Lexeme, lowest_rank, how_of, set_of, open_bracket, close_bracket, arrow, set_to, var_word, val_word, if_word, else_word, while_word, for_word, IsExpression, IsBracketed, IsDeclared, is_declared, IsTarget, no_target, target, IsStatement, var, val, assign, if, while, for, IsBlock, IsElse, no_else, else}
+use Rattle.liszt_parser.specs.Internal.Reading.{Reader, SameHead, HeadIs, Is, HeadIsNot, token, token_with_value, ◌then◌, ReadsOptional}
+use Rattle.liszt_parser.specs.Internal.Sorts.{a_var, a_val, an_if, a_while, a_for, NoElse}
+use Rattle.liszt_parser.specs.Internal.Productions.{brackets, arguments, statements, blocks, closed, declaration, elses, variables_tree, constants_tree, assignments_tree, branches_tree, repetitions_tree, set_loops_tree}
 use Rattle.liszt_parser.proofs.Sorts.{sort_var, sort_val, sort_if, sort_while, sort_for, clash}
 use Rattle.liszt_parser.proofs.OneStatement.{statement_sort, statement_begins}
 use Rattle.liszt_parser.proofs.Readers.{Becomes, head_by, same_back}
-use Rattle.liszt_parser.proofs.Heads.{head_sorted, not_else}
+use Rattle.liszt_parser.proofs.HeadLemmas.{head_sorted, not_else}
 
 -- DECLARATIONS
-pub declared_into : (word : TokenKind) (us left : List Lexeme) (x : Lexeme × (Lexeme × Expression)) → (declared word).reads us x left
+pub declared_into : (word : TokenKind) (us left : List Lexeme) (x : Lexeme × (Lexeme × Expression)) → (declaration word).reads us x left
     → IsDeclared word us x.0 x.1.0 x.1.1 left
 declared_into word us left x d =
     subst (λ (z : Lexeme × (Lexeme × Expression)). IsDeclared word us z.0 z.1.0 z.1.1 left) (sym d.2)
@@ -27,17 +27,17 @@ declared_into word us left x d =
         → IsDeclared word us w n e left
     go us left mid mid' mid'' w n s e h hn hs c =
         subst (λ z. IsDeclared word z w n e left) (sym (h.0 ∙ ap (λ z. w ∷ z) (hn.0 ∙ ap (λ z. n ∷ z) hs.0)))
-        (is_declared w n s h.1 hn.1 hs.1 (subst (λ z. IsExpression any mid'' z c.1.0) (sym c.2) c.1.1) c.1.2)
+        (is_declared w n s h.1 hn.1 hs.1 (subst (λ z. IsExpression lowest_rank mid'' z c.1.0) (sym c.2) c.1.1) c.1.2)
 
 pub declared_out : (word : TokenKind) (us left : List Lexeme) (w n : Lexeme) (e : Expression) → IsDeclared word us w n e left
-    → (declared word).reads us (w, (n, e)) left
+    → (declaration word).reads us (w, (n, e)) left
 declared_out word us left w n e (is_declared {ts} {mid} w' n' s h hn hs d c) =
     ((w, (n, (s, e))), (n ∷ s ∷ ts, (refl, h), (s ∷ ts, (refl, hn), (ts, (refl, hs), ((e, tt), (mid, d, c), refl)))), refl)
 
 pub declared_first : (word : TokenKind) (us left : List Lexeme) (w n : Lexeme) (e : Expression) → IsDeclared word us w n e left → HeadIs (Is word) us
 declared_first word us left w n e (is_declared w' n' s h hn hs d c) = h
 
-pub var_becomes : (ts : List Lexeme) → HeadIs (Is var_word) ts → Becomes statements (declared var_word) variables_tree ts
+pub var_becomes : (ts : List Lexeme) → HeadIs (Is var_word) ts → Becomes statements (declaration var_word) variables_tree ts
 var_becomes ts first =
     record {
       into = λ us left x d. var (declared_into var_word us left x d);
@@ -46,11 +46,11 @@ var_becomes ts first =
     }
   where
     out : (other left : List Lexeme) (e : Statement) → HeadIs (Is var_word) other → IsStatement other e left
-        → (x : Lexeme × (Lexeme × Expression)) × (declared var_word).reads other x left × ⊤ × (e ≡ variables_tree x)
+        → (x : Lexeme × (Lexeme × Expression)) × (declaration var_word).reads other x left × ⊤ × (e ≡ variables_tree x)
     out other left e h (var {e = x} {w} {n} d) = ((w, (n, x)), declared_out var_word other left w n x d, tt, refl)
     out other left e h d = clash a_var (statement_sort d) (head_sorted var_word other h ∙ sort_var refl) (statement_begins d) refl
 
-pub val_becomes : (ts : List Lexeme) → HeadIs (Is val_word) ts → Becomes statements (declared val_word) constants_tree ts
+pub val_becomes : (ts : List Lexeme) → HeadIs (Is val_word) ts → Becomes statements (declaration val_word) constants_tree ts
 val_becomes ts first =
     record {
       into = λ us left x d. val (declared_into val_word us left x d);
@@ -59,16 +59,16 @@ val_becomes ts first =
     }
   where
     out : (other left : List Lexeme) (e : Statement) → HeadIs (Is val_word) other → IsStatement other e left
-        → (x : Lexeme × (Lexeme × Expression)) × (declared val_word).reads other x left × ⊤ × (e ≡ constants_tree x)
+        → (x : Lexeme × (Lexeme × Expression)) × (declaration val_word).reads other x left × ⊤ × (e ≡ constants_tree x)
     out other left e h (val {e = x} {w} {n} d) = ((w, (n, x)), declared_out val_word other left w n x d, tt, refl)
     out other left e h d = clash a_val (statement_sort d) (head_sorted val_word other h ∙ sort_val refl) (statement_begins d) refl
 
 -- ASSIGNMENTS, where no other statement begins
 abbrev pub assigned : Reader (Lexeme × (Option Expression × ((Lexeme × How) × Expression)))
-assigned = token NameToken then arguments then chosen how_of then closed
+assigned = token NameToken then arguments then token_with_value how_of then closed
 
-pub assign_becomes : (ts : List Lexeme) → NotFirst (Is var_word) ts → NotFirst (Is val_word) ts → NotFirst (Is if_word) ts
-    → NotFirst (Is while_word) ts → NotFirst (Is for_word) ts → Becomes statements assigned assignments_tree ts
+pub assign_becomes : (ts : List Lexeme) → HeadIsNot (Is var_word) ts → HeadIsNot (Is val_word) ts → HeadIsNot (Is if_word) ts
+    → HeadIsNot (Is while_word) ts → HeadIsNot (Is for_word) ts → Becomes statements assigned assignments_tree ts
 assign_becomes ts no_var no_val no_if no_while no_for =
     record {
       into = λ us left x d. into us left d.0 d.2.0 d.2.2.0 x.0 x.1.1.0.0 x.1.0 x.1.1.0.1 x.1.1.1 d.1 d.2.1 d.2.2.1 d.2.2.2;
@@ -77,20 +77,20 @@ assign_becomes ts no_var no_val no_if no_while no_for =
     }
   where
     into : (us left mid mid' mid'' : List Lexeme) (n h : Lexeme) (to : Option Expression) (how : How) (e : Expression) → (us ≡ n ∷ mid) × (n.kind ≡ NameToken)
-        → Maybe brackets mid to mid' → (mid' ≡ h ∷ mid'') × (how_of h.kind ≡ Some how) → closed.reads mid'' e left
+        → ReadsOptional brackets mid to mid' → (mid' ≡ h ∷ mid'') × (how_of h.kind ≡ Some how) → closed.reads mid'' e left
         → IsStatement us (Assign n.place n.bytes to how e) left
     into us left mid mid' mid'' n h to how e hn t hh c =
         subst (λ z. IsStatement z (Assign n.place n.bytes to how e) left) (sym hn.0)
-        (assign n h hn.1 (subst (IsTarget mid to) hh.0 (targeted to t)) hh.1 (subst (λ z. IsExpression any mid'' z c.1.0) (sym c.2) c.1.1) c.1.2)
+        (assign n h hn.1 (subst (IsTarget mid to) hh.0 (targeted to t)) hh.1 (subst (λ z. IsExpression lowest_rank mid'' z c.1.0) (sym c.2) c.1.1) c.1.2)
       where
-        targeted : (to : Option Expression) → Maybe brackets mid to mid' → IsTarget mid to mid'
+        targeted : (to : Option Expression) → ReadsOptional brackets mid to mid' → IsTarget mid to mid'
         targeted None e = subst (IsTarget mid None) e no_target
         targeted (Some x) b = target b
 
     back : (is : TokenKind → Type 0) (other : List Lexeme) → SameHead ts other → HeadIs is other → HeadIs is ts
     back is other h k = head_by is other ts (same_back ts other h) k
 
-    untargeted : (us left : List Lexeme) (to : Option Expression) → IsTarget us to left → Maybe brackets us to left
+    untargeted : (us left : List Lexeme) (to : Option Expression) → IsTarget us to left → ReadsOptional brackets us to left
     untargeted us left to no_target = refl
     untargeted us left to (target b) = b
 
@@ -130,7 +130,7 @@ if_becomes ts first =
     otherwise us left w e first second has (else {ts = us'} v h k) = (Some second, ((v, second), (us', (refl, h), k), refl), refl)
 
     out : (other left : List Lexeme) (e : Statement) → HeadIs (Is if_word) other → IsStatement other e left → NoElse left
-        → (x : Lexeme × (Expression × (Body × Option Body))) × branched.reads other x left × (NotFirst (Is else_word) left × ⊤) × (e ≡ branches_tree x)
+        → (x : Lexeme × (Expression × (Body × Option Body))) × branched.reads other x left × (HeadIsNot (Is else_word) left × ⊤) × (e ≡ branches_tree x)
     out other left e h (if {ts = us} {mid} {mid'} {e = x} {first} {second} {has_else} w k b body l) stop =
         let o = otherwise mid' left w x first second has_else l in
         ((w, (x, (first, o.0))), (us, (refl, k), (mid, b, (mid', body, o.1))), (not_else left stop, tt), o.2)
@@ -155,7 +155,7 @@ while_becomes ts first =
 
 abbrev pub looped : Reader (Lexeme × (Lexeme × (Lexeme × (Lexeme × ((Lexeme × SetName) × (Expression × (Lexeme × Body)))))))
 looped =
-    token for_word then token open_bracket then token NameToken then token arrow then chosen set_of then brackets then token close_bracket
+    token for_word then token open_bracket then token NameToken then token arrow then token_with_value set_of then brackets then token close_bracket
     then blocks
 
 pub for_becomes : (ts : List Lexeme) → HeadIs (Is for_word) ts → Becomes statements looped set_loops_tree ts

@@ -8,19 +8,19 @@ use Rattle.liszt_lexer.specs.declared.token.TokenKind.TheVariants.{Name as NameT
 use Rattle.liszt_tree.specs.declared.tree.How.{How}
 use Rattle.liszt_tree.specs.declared.tree.How.TheVariants.{Set}
 use Rattle.liszt_tree.specs.Tree.{Expression, Statement, Assign, Body, no_statement, statement}
-use Rattle.liszt_parser.specs.Grammar.{Lexeme, any, how_of, set_of, open_bracket, close_bracket, open_brace, close_brace, semicolon, arrow, set_to, if_word, else_word, while_word, for_word, by_semicolon, no_target, IsStatement, assign, IsBody, no_statements, statements as statements_of, IsBlock, block}
-use Rattle.liszt_parser.specs.Reading.{SameHead, IsRead, Fails, HeadIs, Is, token, chosen, ◌then◌, mapped}
-use Rattle.liszt_parser.specs.Sorts.{Ends}
-use Rattle.liszt_parser.specs.Productions.{expressions, brackets, arguments, closings, statements, bodies, blocks, closed, closed_tree, elses}
+use Rattle.liszt_parser.specs.Grammar.{Lexeme, lowest_rank, how_of, set_of, open_bracket, close_bracket, open_brace, close_brace, semicolon, arrow, set_to, if_word, else_word, while_word, for_word, by_semicolon, no_target, IsStatement, assign, IsBody, no_statements, statements as statements_of, IsBlock, block}
+use Rattle.liszt_parser.specs.Internal.Reading.{SameHead, IsRead, Fails, HeadIs, Is, token, token_with_value, ◌then◌, mapped_reader}
+use Rattle.liszt_parser.specs.Internal.Sorts.{Ends}
+use Rattle.liszt_parser.specs.Internal.Productions.{expressions, brackets, arguments, closings, statements, bodies, blocks, closed, closed_tree, elses}
 use Rattle.liszt_parser.proofs.Sorts.{closes_stops, sort_end}
 use Rattle.liszt_parser.proofs.OneStatement.{one_closing, one_statement, one_body, one_block, body_no_else}
 use Rattle.liszt_parser.proofs.Readers.{Lawful, Behind, Loose, Becomes, same_back, then_lawful, then_read, mapped_lawful}
-use Rattle.liszt_parser.proofs.TokenReaders.{first_fails, second_fails, free, of_kind, token_lawful, chosen_lawful, token_behind, maybe_lawful, Begins}
-use Rattle.liszt_parser.proofs.Steps.{Part, part_lawful, token_part}
+use Rattle.liszt_parser.proofs.TokenReaders.{first_fails, second_fails, free, of_kind, token_lawful, chosen_lawful, token_after, maybe_lawful, IsProgramPrefix}
+use Rattle.liszt_parser.proofs.StepLemmas.{Part, part_lawful, token_part}
 use Rattle.liszt_parser.proofs.ExpressionReaders.{expressions_lawful, one_number, number_tree, number_read}
 use Rattle.liszt_parser.proofs.ExpressionProductions.{arguments_lawful}
 use Rattle.liszt_parser.proofs.ExpressionSteps.{brackets_part}
-use Rattle.liszt_parser.proofs.Heads.{ends_same, no_else_same}
+use Rattle.liszt_parser.proofs.HeadLemmas.{ends_same, no_else_same}
 
 -- WHAT CLOSES, and an expression before it
 pub closings_lawful : Lawful closings
@@ -34,25 +34,25 @@ closings_lawful =
       reads_some = λ left. by_semicolon _ refl;
     }
 
-pub closings_behind : Behind (expressions any) closings
-closings_behind = record { stops = λ mid left x d stop. closes_stops d; fits = λ mid other x d h. tt }
+pub closings_after : Behind (expressions lowest_rank) closings
+closings_after = record { stops = λ mid left x d stop. closes_stops d; fits = λ mid other x d h. tt }
 
-pub closed_parts_lawful : Lawful (expressions any then closings)
-closed_parts_lawful = then_lawful (expressions_lawful any) closings_lawful closings_behind
+pub closed_parts_lawful : Lawful (expressions lowest_rank then closings)
+closed_parts_lawful = then_lawful (expressions_lawful lowest_rank) closings_lawful closings_after
 
 pub closed_lawful : Lawful closed
 closed_lawful = mapped_lawful closed_tree closed_parts_lawful
 
-pub how_lawful : Lawful (chosen how_of)
+pub how_lawful : Lawful (token_with_value how_of)
 how_lawful = chosen_lawful how_of (Symbol 22) Set refl
 
-pub how_part : Part (chosen how_of)
+pub how_part : Part (token_with_value how_of)
 how_part = record { law = how_lawful; free = free }
 
-pub set_lawful : Lawful (chosen set_of)
+pub set_lawful : Lawful (token_with_value set_of)
 set_lawful = chosen_lawful set_of (Word 21) Vertices refl
 
-pub set_part : Part (chosen set_of)
+pub set_part : Part (token_with_value set_of)
 set_part = record { law = set_lawful; free = free }
 
 -- STATEMENTS. One of them is an assignment of a number.
@@ -64,7 +64,7 @@ statements_lawful =
       fits_head = λ left other h ends. ends_same left other h ends;
       tokens = of_kind NameToken ∷ of_kind set_to ∷ (one_number ++ of_kind semicolon ∷ []);
       some = Assign (of_kind NameToken).place [] None Set number_tree;
-      reads_some = λ left. assign (of_kind NameToken) (of_kind set_to) refl no_target refl (number_read any (of_kind semicolon ∷ left)) (by_semicolon (of_kind semicolon) refl);
+      reads_some = λ left. assign (of_kind NameToken) (of_kind set_to) refl no_target refl (number_read lowest_rank (of_kind semicolon ∷ left)) (by_semicolon (of_kind semicolon) refl);
     }
 
 pub bodies_lawful : Lawful bodies
@@ -113,7 +113,7 @@ bodies_become ts n = record { into = λ us left x d. statements_of d.1 d.2; out 
 
 -- BLOCKS
 pub close_bodies : Behind bodies (token close_brace)
-close_bodies = token_behind close_brace (λ t left h. sort_end h)
+close_bodies = token_after close_brace (λ t left h. sort_end h)
 
 pub close_loose : Loose bodies (token close_brace)
 unfolding Loose
@@ -144,10 +144,10 @@ name_set = part_lawful (token_part NameToken) set_closed
 pub declared_lawful : (word : TokenKind) → Lawful (token word then token NameToken then token set_to then closed)
 declared_lawful word = part_lawful (token_part word) name_set
 
-pub how_closed : Lawful (chosen how_of then closed)
+pub how_closed : Lawful (token_with_value how_of then closed)
 how_closed = part_lawful how_part closed_lawful
 
-pub argument_how : Behind arguments (chosen how_of then closed)
+pub argument_how : Behind arguments (token_with_value how_of then closed)
 argument_how = record { stops = λ mid left x d stop. (λ h. open_no_how mid x.0.0 d.0 x.0.1 d.1.0 d.1.1 h, tt); fits = λ mid other x d h. tt }
   where
     no_how : (kind : TokenKind) → kind ≡ Symbol 0 → how_of kind ≡ None
@@ -157,14 +157,14 @@ argument_how = record { stops = λ mid left x d stop. (λ h. open_no_how mid x.0
         → HeadIs (Is (Symbol 0)) mid → ⊥
     open_no_how mid t left how e h first = let is = no_how t.kind (subst (HeadIs (Is (Symbol 0))) e first) in cc
 
-pub argument_closed : Lawful (arguments then chosen how_of then closed)
+pub argument_closed : Lawful (arguments then token_with_value how_of then closed)
 argument_closed = then_lawful arguments_lawful how_closed argument_how
 
-pub assignment_lawful : Lawful (token NameToken then arguments then chosen how_of then closed)
+pub assignment_lawful : Lawful (token NameToken then arguments then token_with_value how_of then closed)
 assignment_lawful = part_lawful (token_part NameToken) argument_closed
 
-else_first : Begins (Is else_word) (mapped (λ x. x.1) (token else_word then blocks))
-unfolding Begins
+else_first : IsProgramPrefix (Is else_word) (mapped_reader (λ x. x.1) (token else_word then blocks))
+unfolding IsProgramPrefix
 else_first ts left x d = subst (HeadIs (Is else_word)) (sym d.1.1.0) d.1.1.1
 
 pub else_lawful : Lawful (token else_word then blocks)
@@ -178,16 +178,16 @@ block_elses = part_lawful blocks_part elses_lawful
 
 -- the steps behind a target, and behind the body of a block
 pub argument_fails : (ts : List Lexeme) (at : ℕ) (refused : Refused ℕ) → Fails arguments ts at refused
-    → Fails (arguments then chosen how_of then closed) ts at refused
+    → Fails (arguments then token_with_value how_of then closed) ts at refused
 argument_fails ts at refused h = first_fails how_closed argument_how ts at refused h
 
 pub argument_then : (ts : List Lexeme) (at mid : ℕ) (e : Option Expression) (refused : Refused ℕ) → IsRead arguments (drop at ts) e (drop mid ts)
-    → Fails (chosen how_of then closed) ts mid refused → Fails (arguments then chosen how_of then closed) ts at refused
+    → Fails (token_with_value how_of then closed) ts mid refused → Fails (arguments then token_with_value how_of then closed) ts at refused
 unfolding Loose
 argument_then ts at mid e refused d h = second_fails arguments_lawful argument_how (λ mid other left x k n. tt) ts at mid e refused d h
 
-pub argument_read : Lawful (chosen how_of then closed) → (ts mid left : List Lexeme) (e : Option Expression) (x : (Lexeme × How) × Expression)
-    → IsRead arguments ts e mid → IsRead (chosen how_of then closed) mid x left → IsRead (arguments then chosen how_of then closed) ts (e, x) left
+pub argument_read : Lawful (token_with_value how_of then closed) → (ts mid left : List Lexeme) (e : Option Expression) (x : (Lexeme × How) × Expression)
+    → IsRead arguments ts e mid → IsRead (token_with_value how_of then closed) mid x left → IsRead (arguments then token_with_value how_of then closed) ts (e, x) left
 argument_read law ts mid left e x d k = then_read arguments_lawful law argument_how ts mid left e x d k
 
 pub body_fails : (ts : List Lexeme) (at : ℕ) (refused : Refused ℕ) → Fails bodies ts at refused → Fails (bodies then token close_brace) ts at refused
@@ -220,20 +220,20 @@ close_block = part_lawful (token_part close_bracket) blocks_lawful
 pub argument_block : Lawful (brackets then token close_bracket then blocks)
 argument_block = part_lawful brackets_part close_block
 
-pub set_argument : Lawful (chosen set_of then brackets then token close_bracket then blocks)
+pub set_argument : Lawful (token_with_value set_of then brackets then token close_bracket then blocks)
 set_argument = part_lawful set_part argument_block
 
-pub arrow_set : Lawful (token arrow then chosen set_of then brackets then token close_bracket then blocks)
+pub arrow_set : Lawful (token arrow then token_with_value set_of then brackets then token close_bracket then blocks)
 arrow_set = part_lawful (token_part arrow) set_argument
 
-pub name_arrow : Lawful (token NameToken then token arrow then chosen set_of then brackets then token close_bracket then blocks)
+pub name_arrow : Lawful (token NameToken then token arrow then token_with_value set_of then brackets then token close_bracket then blocks)
 name_arrow = part_lawful (token_part NameToken) arrow_set
 
 pub open_name :
-    Lawful (token open_bracket then token NameToken then token arrow then chosen set_of then brackets then token close_bracket then blocks)
+    Lawful (token open_bracket then token NameToken then token arrow then token_with_value set_of then brackets then token close_bracket then blocks)
 open_name = part_lawful (token_part open_bracket) name_arrow
 
 pub loop_lawful :
-    Lawful (token for_word then token open_bracket then token NameToken then token arrow then chosen set_of then brackets
+    Lawful (token for_word then token open_bracket then token NameToken then token arrow then token_with_value set_of then brackets
     then token close_bracket then blocks)
 loop_lawful = part_lawful (token_part for_word) open_name

@@ -1,4 +1,4 @@
--- The texts of the worked cases of the grammar's faults, and how each case is said. This project's own.
+-- The texts of the worked cases of the grammar's faults. This project's own.
 use Rattle.std.specs.Prelude.{◌≡◌, ℕ, Option, Some, Ok, List, [], ◌∷◌, ◌++◌, codes, replicate}
 use Rattle.liszt_base.specs.declared.answers.ProgramFault.{ProgramFault}
 use Rattle.liszt_base.specs.declared.answers.ProgramWhat.{ProgramWhat}
@@ -8,11 +8,11 @@ use Rattle.liszt_lexer.specs.declared.token.Token.{Token}
 use Rattle.liszt_parser.specs.Grammar.{lexemes}
 use Rattle.liszt_parser.specs.ParseFault.{fault_at, IsParseFault}
 
--- the text has tokens, and this is their fault, or they have none
+-- The text has tokens, and this is their fault, if any.
 abbrev pub HasFault : List ℕ → Option ProgramFault → Type 0
 HasFault text fault = (tokens : List Token) × (tokens_of text ≡ Ok tokens) × IsParseFault (lexemes text tokens) (end_of text) fault
 
--- a fault at a line and a column
+-- A fault at a line and a column.
 abbrev pub at_place : ProgramWhat → ℕ → ℕ → Option ProgramFault
 at_place what line col = Some (fault_at what (record { line = line; col = col }))
 
@@ -44,17 +44,17 @@ plain_set = codes "x = y"
 abbrev pub two_below : List ℕ
 two_below = codes "print a < b < c"
 
-abbrev pub print_alone : List ℕ
-print_alone = codes "print"
+abbrev pub only_print : List ℕ
+only_print = codes "print"
 
--- `print` and so many opening brackets
+-- `print` and n opening brackets.
 abbrev pub opened : ℕ → List ℕ
 opened n = codes "print " ++ replicate n 40
 
--- then `1` and as many closing ones
+-- The same, followed by `1` and n closing brackets.
 abbrev pub nested : ℕ → List ℕ
 nested n = opened n ++ 49 ∷ replicate n 41
 
--- or `{` behind the opening ones
+-- `print`, n opening brackets and `{`.
 abbrev pub brace_in : ℕ → List ℕ
 brace_in n = opened n ++ 123 ∷ []

@@ -14,17 +14,17 @@ placeless kind = record { kind = kind; place = nowhere; bytes = [] }
 abbrev pub tokens : List TokenKind → List Lexeme
 tokens kinds = map placeless kinds
 
--- the token that a text is, where it is one alone, and what that stands for
-abbrev pub alone : Result (List TokenKind) ProgramFault → Option TokenKind
-alone (Ok (kind ∷ [])) = Some kind
-alone _ = None
+-- The token of a text that is one token, and its value.
+abbrev pub only_token : Result (List TokenKind) ProgramFault → Option TokenKind
+only_token (Ok (kind ∷ [])) = Some kind
+only_token _ = None
 
 abbrev pub token_of : List ℕ → Option TokenKind
-token_of text = alone (kinds_of text)
+token_of text = only_token (kinds_of text)
 
-abbrev pub stands_for : {A : Type 0} → (TokenKind → Option A) → List ℕ → Option A
-stands_for find text = option_and_then find (token_of text)
+abbrev pub value_of_text : {A : Type 0} → (TokenKind → Option A) → List ℕ → Option A
+value_of_text find text = option_and_then find (token_of text)
 
--- a token by its text
+-- A token by its text.
 abbrev pub lexeme_of : List ℕ → Lexeme
 lexeme_of text = record { kind = unwrap_or (token_of text) Name; place = nowhere; bytes = text }

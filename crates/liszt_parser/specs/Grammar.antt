@@ -1,5 +1,5 @@
--- The grammar of the language as a relation between tokens and tree, a constructor a production. This project's own profile
--- after Liszt (DeVito et al., Supercomputing 2011).
+-- The grammar of the language as a relation between tokens and tree, with a constructor for each production. This project's own
+-- profile, after Liszt (DeVito et al., Supercomputing 2011).
 use Rattle.std.specs.Prelude.{◌≡◌, ℕ, Bool, true, false, Option, Some, None, List, [], ◌∷◌, map, ℤ, ◌==◌, if◌then◌else◌}
 use Rattle.liszt_base.specs.declared.answers.Place.{Place}
 use Rattle.liszt_base.specs.declared.elements.Kind.{Kind}
@@ -23,7 +23,7 @@ use Rattle.liszt_tree.specs.declared.tree.Sign.{Sign}
 use Rattle.liszt_tree.specs.declared.tree.Sign.TheVariants as sign
 use Rattle.liszt_tree.specs.Tree.{Expression, Number, Name, Field, Call, Towards, Neg, Not, Chain, Compare, Links, no_links, link, Statement, Var, Val, Assign, If, While, For, Body, no_statement, statement, MainItem, MainField, MainVar, MainAssign, MainIf, MainWhile, MainFor, Print, Main, no_item, item}
 
--- A token as the grammar sees it: what it is, where, and its bytes.
+-- A token as the grammar sees it: its kind, its place and its bytes.
 pub record Lexeme : Type 0 where
   pub kind : TokenKind
   pub place : Place
@@ -35,7 +35,7 @@ lexeme text token = record { kind = token.kind; place = token.place; bytes = byt
 abbrev pub lexemes : List ℕ → List Token → List Lexeme
 lexemes text tokens = map (lexeme text) tokens
 
--- SYMBOLS AND WORDS, by their places in the lists of the tokens
+-- SYMBOLS AND WORDS, by their indices in the lists of symbols and of reserved words
 abbrev pub open_bracket : TokenKind
 open_bracket = Symbol 0
 
@@ -100,64 +100,64 @@ mesh_word = Word 8
 abbrev pub towards_word : TokenKind
 towards_word = Word 20
 
--- what stands for the place of a word or a symbol in a table
-abbrev pub look_up : {A : Type 0} → List (ℕ × A) → ℕ → Option A
-look_up [] place = None
-look_up (entry ∷ entries) place = if entry.0 == place then Some entry.1 else look_up entries place
+-- The value of a word or of a symbol in a table.
+abbrev pub lookup : {A : Type 0} → List (ℕ × A) → ℕ → Option A
+lookup [] place = None
+lookup (entry ∷ entries) place = if entry.0 == place then Some entry.1 else lookup entries place
 
-abbrev pub at_word : {A : Type 0} → List (ℕ × A) → TokenKind → Option A
-at_word table (Word place) = look_up table place
-at_word table _ = None
+abbrev pub word_value : {A : Type 0} → List (ℕ × A) → TokenKind → Option A
+word_value table (Word place) = lookup table place
+word_value table _ = None
 
-abbrev pub at_symbol : {A : Type 0} → List (ℕ × A) → TokenKind → Option A
-at_symbol table (Symbol place) = look_up table place
-at_symbol table _ = None
+abbrev pub symbol_value : {A : Type 0} → List (ℕ × A) → TokenKind → Option A
+symbol_value table (Symbol place) = lookup table place
+symbol_value table _ = None
 
--- the functions `head tail inside outside flip valid ID`; the kinds; the sets of the whole mesh, and those of an element
+-- The functions `head tail inside outside flip valid ID`; the kinds; the sets of a mesh, and those of an element.
 abbrev pub fun_of : TokenKind → Option Fun
-fun_of = at_word ((15, Head) ∷ (16, Tail) ∷ (17, Inside) ∷ (18, Outside) ∷ (19, Flip) ∷ (26, Valid) ∷ (27, Id) ∷ [])
+fun_of = word_value ((15, Head) ∷ (16, Tail) ∷ (17, Inside) ∷ (18, Outside) ∷ (19, Flip) ∷ (26, Valid) ∷ (27, Id) ∷ [])
 
 abbrev pub kind_of : TokenKind → Option Kind
-kind_of = at_word ((11, Vertex) ∷ (12, Edge) ∷ (13, Face) ∷ (14, Cell) ∷ [])
+kind_of = word_value ((11, Vertex) ∷ (12, Edge) ∷ (13, Face) ∷ (14, Cell) ∷ [])
 
-abbrev pub whole_of : TokenKind → Option Kind
-whole_of = at_word ((21, Vertex) ∷ (22, Edge) ∷ (23, Face) ∷ (24, Cell) ∷ [])
+abbrev pub mesh_set_of : TokenKind → Option Kind
+mesh_set_of = word_value ((21, Vertex) ∷ (22, Edge) ∷ (23, Face) ∷ (24, Cell) ∷ [])
 
 abbrev pub set_of : TokenKind → Option SetName
-set_of = at_word ((21, Vertices) ∷ (22, Edges) ∷ (23, Faces) ∷ (24, Cells) ∷ (25, EdgesCcw) ∷ [])
+set_of = word_value ((21, Vertices) ∷ (22, Edges) ∷ (23, Faces) ∷ (24, Cells) ∷ (25, EdgesCcw) ∷ [])
 
--- the operators of each level of chains, the comparisons, the assignments
+-- The operators of each level of chains, the comparisons and the assignments.
 abbrev pub sign_of : Level → TokenKind → Option Sign
-sign_of Or = at_symbol ((15, sign.Or) ∷ [])
-sign_of And = at_symbol ((14, sign.And) ∷ [])
-sign_of Sum = at_symbol ((16, sign.Plus) ∷ (17, sign.Minus) ∷ [])
-sign_of Product = at_symbol ((18, sign.Times) ∷ (19, sign.Over) ∷ (20, sign.Rest) ∷ [])
+sign_of Or = symbol_value ((15, sign.Or) ∷ [])
+sign_of And = symbol_value ((14, sign.And) ∷ [])
+sign_of Sum = symbol_value ((16, sign.Plus) ∷ (17, sign.Minus) ∷ [])
+sign_of Product = symbol_value ((18, sign.Times) ∷ (19, sign.Over) ∷ (20, sign.Rest) ∷ [])
 
 abbrev pub rel_of : TokenKind → Option Rel
-rel_of = at_symbol ((8, Same) ∷ (9, Other) ∷ (10, AtMost) ∷ (11, AtLeast) ∷ (12, Below) ∷ (13, Above) ∷ [])
+rel_of = symbol_value ((8, Same) ∷ (9, Other) ∷ (10, AtMost) ∷ (11, AtLeast) ∷ (12, Below) ∷ (13, Above) ∷ [])
 
 abbrev pub how_of : TokenKind → Option How
 how_of MinSet = Some (Fold Min)
 how_of MaxSet = Some (Fold Max)
 how_of kind =
-    at_symbol ((22, Set) ∷ (23, Fold Add) ∷ (24, Less) ∷ (25, Fold Mul) ∷ (26, Fold AndBits) ∷ (27, Fold OrBits) ∷ (28, Fold Xor) ∷ []) kind
+    symbol_value ((22, Set) ∷ (23, Fold Add) ∷ (24, Less) ∷ (25, Fold Mul) ∷ (26, Fold AndBits) ∷ (27, Fold OrBits) ∷ (28, Fold Xor) ∷ []) kind
 
--- EXPRESSIONS. A rank says how tightly an expression binds: the chains of `||`, of `&&`, a comparison, the chains of sums and
--- of products, a prefix operator, and what stands alone. The operands of a chain are of the next rank.
+-- EXPRESSIONS. The rank of an expression says how tightly it binds, from the chains of `||` to those of `&&`, comparisons, the
+-- chains of sums and of products, prefix operators, and primary expressions. The operands of a chain have the next rank.
 pub data Rank : Type 0 where
   chain : Level → Rank
-  comparison prefixed alone : Rank
+  comparison prefix_expression primary_expression : Rank
 
 abbrev pub operand : Level → Rank
 operand Or = chain And
 operand And = comparison
 operand Sum = chain Product
-operand Product = prefixed
+operand Product = prefix_expression
 
-abbrev pub any : Rank
-any = chain Or
+abbrev pub lowest_rank : Rank
+lowest_rank = chain Or
 
--- the tokens begin with those of the tree, and these are left
+-- The tokens start with those of the tree, followed by the remaining tokens.
 mutual
   pub data IsExpression : Rank → List Lexeme → Expression → List Lexeme → Type 0 where
     one_operand : {level : Level} {ts left : List Lexeme} {e : Expression} → IsExpression (operand level) ts e left → IsExpression (chain level) ts e left
@@ -167,21 +167,21 @@ mutual
     one_sum : {ts left : List Lexeme} {e : Expression} → IsExpression (chain Sum) ts e left → IsExpression comparison ts e left
     compared : {ts mid left : List Lexeme} {a b : Expression} {rel : Rel} (t : Lexeme) → IsExpression (chain Sum) ts a (t ∷ mid)
         → rel_of t.kind ≡ Some rel → IsExpression (chain Sum) mid b left → IsExpression comparison ts (Compare t.place rel a b) left
-    no_prefix : {ts left : List Lexeme} {e : Expression} → IsExpression alone ts e left → IsExpression prefixed ts e left
-    negated : {ts left : List Lexeme} {e : Expression} (t : Lexeme) → t.kind ≡ minus → IsExpression prefixed ts e left
-        → IsExpression prefixed (t ∷ ts) (Neg t.place e) left
-    denied : {ts left : List Lexeme} {e : Expression} (t : Lexeme) → t.kind ≡ bang → IsExpression prefixed ts e left
-        → IsExpression prefixed (t ∷ ts) (Not t.place e) left
-    number : {left : List Lexeme} {n : ℤ} (t : Lexeme) → t.kind ≡ NumberToken n → IsExpression alone (t ∷ left) (Number t.place n) left
-    name : {left : List Lexeme} (t : Lexeme) → t.kind ≡ NameToken → IsExpression alone (t ∷ left) (Name t.place t.bytes) left
+    no_prefix : {ts left : List Lexeme} {e : Expression} → IsExpression primary_expression ts e left → IsExpression prefix_expression ts e left
+    negation : {ts left : List Lexeme} {e : Expression} (t : Lexeme) → t.kind ≡ minus → IsExpression prefix_expression ts e left
+        → IsExpression prefix_expression (t ∷ ts) (Neg t.place e) left
+    logical_not : {ts left : List Lexeme} {e : Expression} (t : Lexeme) → t.kind ≡ bang → IsExpression prefix_expression ts e left
+        → IsExpression prefix_expression (t ∷ ts) (Not t.place e) left
+    number : {left : List Lexeme} {n : ℤ} (t : Lexeme) → t.kind ≡ NumberToken n → IsExpression primary_expression (t ∷ left) (Number t.place n) left
+    name : {left : List Lexeme} (t : Lexeme) → t.kind ≡ NameToken → IsExpression primary_expression (t ∷ left) (Name t.place t.bytes) left
     field : {ts left : List Lexeme} {e : Expression} (t : Lexeme) → t.kind ≡ NameToken → IsBracketed ts e left
-        → IsExpression alone (t ∷ ts) (Field t.place t.bytes e) left
+        → IsExpression primary_expression (t ∷ ts) (Field t.place t.bytes e) left
     call : {ts left : List Lexeme} {e : Expression} {fun : Fun} (t : Lexeme) → fun_of t.kind ≡ Some fun → IsBracketed ts e left
-        → IsExpression alone (t ∷ ts) (Call t.place fun e) left
+        → IsExpression primary_expression (t ∷ ts) (Call t.place fun e) left
     towards : {ts mid left : List Lexeme} {e to : Expression} (t o m c : Lexeme) → t.kind ≡ towards_word → o.kind ≡ open_bracket
-        → IsExpression any ts e (m ∷ mid) → m.kind ≡ comma → IsExpression any mid to (c ∷ left) → c.kind ≡ close_bracket
-        → IsExpression alone (t ∷ o ∷ ts) (Towards t.place e to) left
-    in_brackets : {ts left : List Lexeme} {e : Expression} → IsBracketed ts e left → IsExpression alone ts e left
+        → IsExpression lowest_rank ts e (m ∷ mid) → m.kind ≡ comma → IsExpression lowest_rank mid to (c ∷ left) → c.kind ≡ close_bracket
+        → IsExpression primary_expression (t ∷ o ∷ ts) (Towards t.place e to) left
+    in_brackets : {ts left : List Lexeme} {e : Expression} → IsBracketed ts e left → IsExpression primary_expression ts e left
 
   pub data IsLinks : Level → List Lexeme → Links → List Lexeme → Type 0 where
     no_more_links : {level : Level} {left : List Lexeme} → IsLinks level left no_links left
@@ -190,21 +190,21 @@ mutual
         → IsLinks level (t ∷ ts) (link s t.place e more) left
 
   pub data IsBracketed : List Lexeme → Expression → List Lexeme → Type 0 where
-    bracketed : {ts left : List Lexeme} {e : Expression} (o c : Lexeme) → o.kind ≡ open_bracket → IsExpression any ts e (c ∷ left)
+    bracketed : {ts left : List Lexeme} {e : Expression} (o c : Lexeme) → o.kind ≡ open_bracket → IsExpression lowest_rank ts e (c ∷ left)
         → c.kind ≡ close_bracket → IsBracketed (o ∷ ts) e left
 
--- What closes a statement: a `;`, or nothing where `}` or the end comes next.
+-- The end of a statement: a `;`, or nothing before a `}` or the end.
 pub data Closes : List Lexeme → List Lexeme → Type 0 where
   by_semicolon : {left : List Lexeme} (t : Lexeme) → t.kind ≡ semicolon → Closes (t ∷ left) left
   by_brace : {left : List Lexeme} (t : Lexeme) → t.kind ≡ close_brace → Closes (t ∷ left) (t ∷ left)
   by_end : Closes [] []
 
--- `WORD NAME = expression` and what closes it
+-- `WORD NAME = expression` and the end of the statement.
 pub data IsDeclared (word : TokenKind) : List Lexeme → Lexeme → Lexeme → Expression → List Lexeme → Type 0 where
   is_declared : {ts mid left : List Lexeme} {e : Expression} (w n s : Lexeme) → w.kind ≡ word → n.kind ≡ NameToken → s.kind ≡ set_to
-      → IsExpression any ts e mid → Closes mid left → IsDeclared word (w ∷ n ∷ s ∷ ts) w n e left
+      → IsExpression lowest_rank ts e mid → Closes mid left → IsDeclared word (w ∷ n ∷ s ∷ ts) w n e left
 
--- the target of an assignment in a body, which is optional
+-- The argument of the target of an assignment in a body, which is optional.
 pub data IsTarget : List Lexeme → Option Expression → List Lexeme → Type 0 where
   no_target : {left : List Lexeme} → IsTarget left None left
   target : {ts left : List Lexeme} {e : Expression} → IsBracketed ts e left → IsTarget ts (Some e) left
@@ -217,7 +217,7 @@ mutual
     val : {ts left : List Lexeme} {e : Expression} {w n : Lexeme} → IsDeclared val_word ts w n e left
         → IsStatement ts (Val w.place n.bytes n.place e) left
     assign : {ts ts' mid left : List Lexeme} {to : Option Expression} {e : Expression} {how : How} (n h : Lexeme) → n.kind ≡ NameToken
-        → IsTarget ts to (h ∷ ts') → how_of h.kind ≡ Some how → IsExpression any ts' e mid → Closes mid left
+        → IsTarget ts to (h ∷ ts') → how_of h.kind ≡ Some how → IsExpression lowest_rank ts' e mid → Closes mid left
         → IsStatement (n ∷ ts) (Assign n.place n.bytes to how e) left
     if : {ts mid mid' left : List Lexeme} {e : Expression} {first second : Body} {has_else : Bool} (w : Lexeme) → w.kind ≡ if_word
         → IsBracketed ts e mid → IsBlock mid first mid' → IsElse mid' second has_else left
@@ -246,12 +246,12 @@ mutual
 mutual
   pub data IsItem : List Lexeme → MainItem → List Lexeme → Type 0 where
     main_field : {ts mid left : List Lexeme} {e : Expression} {kind : Kind} (w n d k s : Lexeme) → w.kind ≡ field_word
-        → n.kind ≡ NameToken → d.kind ≡ colon → kind_of k.kind ≡ Some kind → s.kind ≡ set_to → IsExpression any ts e mid → Closes mid left
+        → n.kind ≡ NameToken → d.kind ≡ colon → kind_of k.kind ≡ Some kind → s.kind ≡ set_to → IsExpression lowest_rank ts e mid → Closes mid left
         → IsItem (w ∷ n ∷ d ∷ k ∷ s ∷ ts) (MainField w.place n.bytes n.place kind e) left
     main_var : {ts left : List Lexeme} {e : Expression} {w n : Lexeme} → IsDeclared var_word ts w n e left
         → IsItem ts (MainVar w.place n.bytes n.place e) left
     main_assign : {ts mid left : List Lexeme} {e : Expression} {how : How} (n h : Lexeme) → n.kind ≡ NameToken
-        → how_of h.kind ≡ Some how → IsExpression any ts e mid → Closes mid left
+        → how_of h.kind ≡ Some how → IsExpression lowest_rank ts e mid → Closes mid left
         → IsItem (n ∷ h ∷ ts) (MainAssign n.place n.bytes how e) left
     main_if : {ts mid mid' left : List Lexeme} {e : Expression} {first second : Main} {has_else : Bool} (w : Lexeme) → w.kind ≡ if_word
         → IsBracketed ts e mid → IsMainBlock mid first mid' → IsMainElse mid' second has_else left
@@ -259,10 +259,10 @@ mutual
     main_while : {ts mid left : List Lexeme} {e : Expression} {body : Main} (w : Lexeme) → w.kind ≡ while_word
         → IsBracketed ts e mid → IsMainBlock mid body left → IsItem (w ∷ ts) (MainWhile w.place e body) left
     main_for : {ts left : List Lexeme} {body : Body} {kind : Kind} (w o n a k p m q c : Lexeme) → w.kind ≡ for_word
-        → o.kind ≡ open_bracket → n.kind ≡ NameToken → a.kind ≡ arrow → whole_of k.kind ≡ Some kind → p.kind ≡ open_bracket
+        → o.kind ≡ open_bracket → n.kind ≡ NameToken → a.kind ≡ arrow → mesh_set_of k.kind ≡ Some kind → p.kind ≡ open_bracket
         → m.kind ≡ mesh_word → q.kind ≡ close_bracket → c.kind ≡ close_bracket → IsBlock ts body left
         → IsItem (w ∷ o ∷ n ∷ a ∷ k ∷ p ∷ m ∷ q ∷ c ∷ ts) (MainFor w.place n.bytes n.place kind body) left
-    print : {ts mid left : List Lexeme} {e : Expression} (w : Lexeme) → w.kind ≡ print_word → IsExpression any ts e mid
+    print : {ts mid left : List Lexeme} {e : Expression} (w : Lexeme) → w.kind ≡ print_word → IsExpression lowest_rank ts e mid
         → Closes mid left → IsItem (w ∷ ts) (Print w.place e) left
 
   pub data IsMain : List Lexeme → Main → List Lexeme → Type 0 where

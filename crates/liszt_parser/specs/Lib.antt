@@ -2,13 +2,7 @@ pub mod CaseTexts
 pub mod Cases
 pub mod Depth
 pub mod Grammar
-pub mod Lies
-pub mod Nesting
-pub mod Operands
+pub mod Internal
 pub mod ParseFault
-pub mod Parsed
-pub mod Productions
+pub mod ParserAnswers
 pub mod Programs
-pub mod Reading
-pub mod Sorts
-pub mod Sources

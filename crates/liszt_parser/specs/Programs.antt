@@ -4,7 +4,7 @@ use Rattle.liszt_base.specs.declared.answers.Place.{Place}
 use Rattle.liszt_base.specs.declared.elements.Kind.TheVariants.{Vertex, Edge, Face}
 use Rattle.liszt_base.specs.declared.elements.Op.TheVariants.{Add, Mul, Min}
 use Rattle.liszt_base.specs.declared.elements.SetName.TheVariants.{EdgesCcw}
-use Rattle.liszt_lexer.specs.Cases.{found}
+use Rattle.liszt_lexer.specs.Cases.{token_at}
 use Rattle.liszt_lexer.specs.declared.token.Token.{Token}
 use Rattle.liszt_lexer.specs.declared.token.TokenKind.TheVariants.{Name as IsName, Number as IsNumber}
 use Rattle.liszt_lexer.specs.declared.token.TokenKind.TheVariants.{Word as IsWord, Symbol as IsSymbol, MinSet as IsMinSet}
@@ -21,23 +21,23 @@ use Rattle.liszt_tree.specs.Tree.{MainField, MainVar, MainAssign, MainIf, MainWh
 abbrev pub at : ℕ → ℕ → Place
 at line col = record { line = line; col = col }
 
--- THE DEGREE of each vertex
+-- THE DEGREE of each vertex.
 abbrev pub degree_text : List ℕ
 degree_text = codes "field Deg : Vertex = 0;\nfor (e <- edges(mesh)) { Deg(head(e)) += 1; Deg(tail(e)) += 1 }\n"
 
 abbrev pub degree_tokens : List Token
 degree_tokens =
-    found (IsWord 0) 1 1 0 5 ∷ found IsName 1 7 6 9 ∷ found (IsSymbol 6) 1 11 10 11 ∷ found (IsWord 11) 1 13 12 18
-    ∷ found (IsSymbol 22) 1 20 19 20 ∷ found (IsNumber (pos 0)) 1 22 21 22 ∷ found (IsSymbol 5) 1 23 22 23
-    ∷ found (IsWord 6) 2 1 24 27 ∷ found (IsSymbol 0) 2 5 28 29 ∷ found IsName 2 6 29 30 ∷ found (IsSymbol 7) 2 8 31 33
-    ∷ found (IsWord 22) 2 11 34 39 ∷ found (IsSymbol 0) 2 16 39 40 ∷ found (IsWord 8) 2 17 40 44 ∷ found (IsSymbol 1) 2 21 44 45
-    ∷ found (IsSymbol 1) 2 22 45 46 ∷ found (IsSymbol 2) 2 24 47 48
-    ∷ found IsName 2 26 49 52 ∷ found (IsSymbol 0) 2 29 52 53 ∷ found (IsWord 15) 2 30 53 57 ∷ found (IsSymbol 0) 2 34 57 58
-    ∷ found IsName 2 35 58 59 ∷ found (IsSymbol 1) 2 36 59 60 ∷ found (IsSymbol 1) 2 37 60 61 ∷ found (IsSymbol 23) 2 39 62 64
-    ∷ found (IsNumber (pos 1)) 2 42 65 66 ∷ found (IsSymbol 5) 2 43 66 67
-    ∷ found IsName 2 45 68 71 ∷ found (IsSymbol 0) 2 48 71 72 ∷ found (IsWord 16) 2 49 72 76 ∷ found (IsSymbol 0) 2 53 76 77
-    ∷ found IsName 2 54 77 78 ∷ found (IsSymbol 1) 2 55 78 79 ∷ found (IsSymbol 1) 2 56 79 80 ∷ found (IsSymbol 23) 2 58 81 83
-    ∷ found (IsNumber (pos 1)) 2 61 84 85 ∷ found (IsSymbol 3) 2 63 86 87 ∷ []
+    token_at (IsWord 0) 1 1 0 5 ∷ token_at IsName 1 7 6 9 ∷ token_at (IsSymbol 6) 1 11 10 11 ∷ token_at (IsWord 11) 1 13 12 18
+    ∷ token_at (IsSymbol 22) 1 20 19 20 ∷ token_at (IsNumber (pos 0)) 1 22 21 22 ∷ token_at (IsSymbol 5) 1 23 22 23
+    ∷ token_at (IsWord 6) 2 1 24 27 ∷ token_at (IsSymbol 0) 2 5 28 29 ∷ token_at IsName 2 6 29 30 ∷ token_at (IsSymbol 7) 2 8 31 33
+    ∷ token_at (IsWord 22) 2 11 34 39 ∷ token_at (IsSymbol 0) 2 16 39 40 ∷ token_at (IsWord 8) 2 17 40 44 ∷ token_at (IsSymbol 1) 2 21 44 45
+    ∷ token_at (IsSymbol 1) 2 22 45 46 ∷ token_at (IsSymbol 2) 2 24 47 48
+    ∷ token_at IsName 2 26 49 52 ∷ token_at (IsSymbol 0) 2 29 52 53 ∷ token_at (IsWord 15) 2 30 53 57 ∷ token_at (IsSymbol 0) 2 34 57 58
+    ∷ token_at IsName 2 35 58 59 ∷ token_at (IsSymbol 1) 2 36 59 60 ∷ token_at (IsSymbol 1) 2 37 60 61 ∷ token_at (IsSymbol 23) 2 39 62 64
+    ∷ token_at (IsNumber (pos 1)) 2 42 65 66 ∷ token_at (IsSymbol 5) 2 43 66 67
+    ∷ token_at IsName 2 45 68 71 ∷ token_at (IsSymbol 0) 2 48 71 72 ∷ token_at (IsWord 16) 2 49 72 76 ∷ token_at (IsSymbol 0) 2 53 76 77
+    ∷ token_at IsName 2 54 77 78 ∷ token_at (IsSymbol 1) 2 55 78 79 ∷ token_at (IsSymbol 1) 2 56 79 80 ∷ token_at (IsSymbol 23) 2 58 81 83
+    ∷ token_at (IsNumber (pos 1)) 2 61 84 85 ∷ token_at (IsSymbol 3) 2 63 86 87 ∷ []
 
 -- `Deg(target) += 1`, at the place of `Deg`, and with the place of `1`
 abbrev pub adds_one : Place → Expression → Place → Statement
@@ -56,17 +56,17 @@ other_text = codes "var m = 1 + 2 * -3 - 4; while (m <= 9 && !(m == 8)) { m min=
 
 abbrev pub other_tokens : List Token
 other_tokens =
-    found (IsWord 1) 1 1 0 3 ∷ found IsName 1 5 4 5 ∷ found (IsSymbol 22) 1 7 6 7
-    ∷ found (IsNumber (pos 1)) 1 9 8 9 ∷ found (IsSymbol 16) 1 11 10 11 ∷ found (IsNumber (pos 2)) 1 13 12 13
-    ∷ found (IsSymbol 18) 1 15 14 15 ∷ found (IsSymbol 17) 1 17 16 17 ∷ found (IsNumber (pos 3)) 1 18 17 18
-    ∷ found (IsSymbol 17) 1 20 19 20 ∷ found (IsNumber (pos 4)) 1 22 21 22 ∷ found (IsSymbol 5) 1 23 22 23
-    ∷ found (IsWord 5) 1 25 24 29 ∷ found (IsSymbol 0) 1 31 30 31 ∷ found IsName 1 32 31 32 ∷ found (IsSymbol 10) 1 34 33 35
-    ∷ found (IsNumber (pos 9)) 1 37 36 37 ∷ found (IsSymbol 14) 1 39 38 40 ∷ found (IsSymbol 21) 1 42 41 42
-    ∷ found (IsSymbol 0) 1 43 42 43 ∷ found IsName 1 44 43 44 ∷ found (IsSymbol 8) 1 46 45 47 ∷ found (IsNumber (pos 8)) 1 49 48 49
-    ∷ found (IsSymbol 1) 1 50 49 50 ∷ found (IsSymbol 1) 1 51 50 51 ∷ found (IsSymbol 2) 1 53 52 53
-    ∷ found IsName 1 55 54 55 ∷ found IsMinSet 1 57 56 60 ∷ found (IsSymbol 0) 1 62 61 62 ∷ found IsName 1 63 62 63
-    ∷ found (IsSymbol 17) 1 65 64 65 ∷ found (IsNumber (pos 1)) 1 67 66 67 ∷ found (IsSymbol 1) 1 68 67 68
-    ∷ found (IsSymbol 3) 1 70 69 70 ∷ []
+    token_at (IsWord 1) 1 1 0 3 ∷ token_at IsName 1 5 4 5 ∷ token_at (IsSymbol 22) 1 7 6 7
+    ∷ token_at (IsNumber (pos 1)) 1 9 8 9 ∷ token_at (IsSymbol 16) 1 11 10 11 ∷ token_at (IsNumber (pos 2)) 1 13 12 13
+    ∷ token_at (IsSymbol 18) 1 15 14 15 ∷ token_at (IsSymbol 17) 1 17 16 17 ∷ token_at (IsNumber (pos 3)) 1 18 17 18
+    ∷ token_at (IsSymbol 17) 1 20 19 20 ∷ token_at (IsNumber (pos 4)) 1 22 21 22 ∷ token_at (IsSymbol 5) 1 23 22 23
+    ∷ token_at (IsWord 5) 1 25 24 29 ∷ token_at (IsSymbol 0) 1 31 30 31 ∷ token_at IsName 1 32 31 32 ∷ token_at (IsSymbol 10) 1 34 33 35
+    ∷ token_at (IsNumber (pos 9)) 1 37 36 37 ∷ token_at (IsSymbol 14) 1 39 38 40 ∷ token_at (IsSymbol 21) 1 42 41 42
+    ∷ token_at (IsSymbol 0) 1 43 42 43 ∷ token_at IsName 1 44 43 44 ∷ token_at (IsSymbol 8) 1 46 45 47 ∷ token_at (IsNumber (pos 8)) 1 49 48 49
+    ∷ token_at (IsSymbol 1) 1 50 49 50 ∷ token_at (IsSymbol 1) 1 51 50 51 ∷ token_at (IsSymbol 2) 1 53 52 53
+    ∷ token_at IsName 1 55 54 55 ∷ token_at IsMinSet 1 57 56 60 ∷ token_at (IsSymbol 0) 1 62 61 62 ∷ token_at IsName 1 63 62 63
+    ∷ token_at (IsSymbol 17) 1 65 64 65 ∷ token_at (IsNumber (pos 1)) 1 67 66 67 ∷ token_at (IsSymbol 1) 1 68 67 68
+    ∷ token_at (IsSymbol 3) 1 70 69 70 ∷ []
 
 abbrev pub m_at : Place → Expression
 m_at place = Name place (codes "m")
@@ -94,7 +94,7 @@ other_tree =
     item (MainVar (at 1 1) (codes "m") (at 1 5) other_sum)
     (item (MainWhile (at 1 25) other_test (item (MainAssign (at 1 55) (codes "m") (Fold Min) one_less) no_item)) no_item)
 
--- EVERY OTHER CONSTRUCT: blocks with and without `else`, an empty one, and each statement of a body. Its words have no places.
+-- EVERY OTHER CONSTRUCT: blocks with and without `else`, an empty block, and each statement of a body. The tokens have no places.
 abbrev pub every_words : List (List ℕ)
 every_words =
     codes "var" ∷ codes "m" ∷ codes "=" ∷ codes "-" ∷ codes "1" ∷ codes ";" ∷ codes "field" ∷ codes "F" ∷ codes ":"

@@ -1,16 +1,16 @@
-//! Expressions, a function for each rank. A chain is read by a loop, and brackets and prefix operators by recursion.
+//! Expressions, with a function for each rank. A chain is read by a loop, brackets and prefix operators by recursion.
 
 ghost use Rattle.std.specs.Prelude.{◌≡◌, ◌≤◌, length, drop, map};
 ghost use Rattle.std.specs.Option.{option_map};
 ghost use Rattle.liszt_tree.specs.declared.tree.Level.TheVariants.{Sum};
 ghost use Rattle.liszt_tree.specs.Tree as Tree;
 ghost use Rattle.liszt_tree.specs.Tree.{expression as tree, links_of};
-ghost use Rattle.liszt_parser.specs.Grammar.{any, alone as alone_rank, chain as chain_rank, comparison as comparison_rank, operand as operand_rank, prefixed as prefixed_rank};
-ghost use Rattle.liszt_parser.specs.Productions as Productions;
-ghost use Rattle.liszt_parser.specs.Productions.{arguments, brackets, calls, denials, expressions, names, negations, numbers, orientations, seconds};
-ghost use Rattle.liszt_parser.specs.Reading.{Outcome, Settled};
-ghost use Rattle.liszt_parser.specs.Sorts.{Stops};
-ghost use Rattle.liszt_parser.specs.Sources.{all_of, seen_as};
+ghost use Rattle.liszt_parser.specs.Grammar.{lowest_rank, primary_expression as primary_rank, chain as chain_rank, comparison as comparison_rank, operand as operand_rank, prefix_expression as prefix_rank};
+ghost use Rattle.liszt_parser.specs.Internal.Productions as Productions;
+ghost use Rattle.liszt_parser.specs.Internal.Productions.{arguments, brackets, calls, logical_nots, expressions, names, negations, numbers, orientations, seconds};
+ghost use Rattle.liszt_parser.specs.Internal.Reading.{Outcome, Settled};
+ghost use Rattle.liszt_parser.specs.Internal.Sorts.{Stops};
+ghost use Rattle.liszt_parser.specs.Internal.Sources.{source_lexemes, source_lexeme};
 
 use crate::choices::{digits, fun, rel, sign};
 use crate::kinds::{BANG, CLOSE_BRACKET, COMMA, MINUS, OPEN_BRACKET, TOWARDS};
@@ -24,17 +24,18 @@ use sqlite_items::Items;
 /// An expression.
 #[cycle(expression)]
 pub(crate) fn expression(source: &Source, at: usize) -> Parsed<Expr>
-    requires { at ≤ length (all_of source.now) }
-    ensures { Outcome 1 (expressions any) tree (all_of source.now) at result }
+    requires { at ≤ length (source_lexemes source.now) }
+    ensures { Outcome 1 (expressions lowest_rank) tree (source_lexemes source.now) at result }
 {
     chain(source, at, Level::Or)
 }
 
-/// A chain of a level, or one operand of it.
+/// A chain of a level, or one operand.
 #[cycle(expression)]
 fn chain(source: &Source, at: usize, level: Level) -> Parsed<Expr>
-    requires { at ≤ length (all_of source.now) }
-    ensures { Outcome 1 (expressions (chain_rank level)) tree (all_of source.now) at result }
+    requires { at ≤ length (source_lexemes source.now) }
+    ensures { Outcome 1 (expressions (chain_rank level)) tree
+        (source_lexemes source.now) at result }
 {
     let (first, at) = operand(source, at, level)?;
     let (rest, at) = links(source, at, level)?;
@@ -48,28 +49,30 @@ fn chain(source: &Source, at: usize, level: Level) -> Parsed<Expr>
 /// An operand of a chain of a level.
 #[cycle(expression)]
 fn operand(source: &Source, at: usize, level: Level) -> Parsed<Expr>
-    requires { at ≤ length (all_of source.now) }
-    ensures { Outcome 1 (expressions (operand_rank level)) tree (all_of source.now) at result }
+    requires { at ≤ length (source_lexemes source.now) }
+    ensures { Outcome 1 (expressions (operand_rank level)) tree
+        (source_lexemes source.now) at result }
 {
     match level {
         Level::Or => chain(source, at, Level::And),
         Level::And => comparison(source, at),
         Level::Sum => chain(source, at, Level::Product),
-        Level::Product => prefixed(source, at),
+        Level::Product => prefix_expression(source, at),
     }
 }
 
-/// The further operands of a chain, each behind its operator.
+/// The operators of a chain, each with the operand after it.
 #[cycle(expression)]
 fn links(source: &Source, at: usize, level: Level) -> Parsed<LinkList>
-    requires within { at ≤ length (all_of source.now) }
-    requires stops { Stops (operand_rank level) (drop at (all_of source.now)) }
-    ensures { Outcome 0 (Productions.links level) (λ rest. links_of (map (λ l. (l.op, l.place, tree l.arg)) rest)) (all_of source.now) at result }
+    requires within { at ≤ length (source_lexemes source.now) }
+    requires stops { Stops (operand_rank level) (drop at (source_lexemes source.now)) }
+    ensures { Outcome 0 (Productions.links level) (λ rest. links_of
+        (map (λ l. (l.op, l.place, tree l.arg)) rest)) (source_lexemes source.now) at result }
 {
     let mut here = at;
     let mut rest = Items::new(source.alloc());
-    while let Some(((token, op), behind)) = sign(source, here, level) {
-        let (arg, end) = operand(source, behind, level)?;
+    while let Some(((token, op), after)) = sign(source, here, level) {
+        let (arg, end) = operand(source, after, level)?;
         push(
             &mut rest,
             Link {
@@ -86,8 +89,8 @@ fn links(source: &Source, at: usize, level: Level) -> Parsed<LinkList>
 /// A comparison of two sums, or one sum.
 #[cycle(expression)]
 fn comparison(source: &Source, at: usize) -> Parsed<Expr>
-    requires { at ≤ length (all_of source.now) }
-    ensures { Outcome 1 (expressions comparison_rank) tree (all_of source.now) at result }
+    requires { at ≤ length (source_lexemes source.now) }
+    ensures { Outcome 1 (expressions comparison_rank) tree (source_lexemes source.now) at result }
 {
     let (left, at) = chain(source, at, Level::Sum)?;
     let (second, at) = compared(source, at)?;
@@ -107,46 +110,47 @@ fn comparison(source: &Source, at: usize) -> Parsed<Expr>
     ))
 }
 
-/// What a sum is compared with, if anything. No comparison is compared.
+/// The comparison operator and the second sum, if any. A comparison is not compared.
 #[cycle(expression)]
 fn compared(source: &Source, at: usize) -> Parsed<Option<(Token, Rel, Expr)>>
-    requires within { at ≤ length (all_of source.now) }
-    requires stops { Stops (chain_rank Sum) (drop at (all_of source.now)) }
-    ensures { Outcome 0 seconds (option_map (λ x. ((seen_as source.now x.0, x.1), tree x.2))) (all_of source.now) at result }
+    requires within { at ≤ length (source_lexemes source.now) }
+    requires stops { Stops (chain_rank Sum) (drop at (source_lexemes source.now)) }
+    ensures { Outcome 0 seconds (option_map (λ x. ((source_lexeme source.now x.0, x.1), tree x.2)))
+        (source_lexemes source.now) at result }
 {
-    let Some(((token, relation), behind)) = rel(source, at) else {
+    let Some(((token, relation), after)) = rel(source, at) else {
         return Ok((None, at));
     };
-    let (right, end) = chain(source, behind, Level::Sum)?;
+    let (right, end) = chain(source, after, Level::Sum)?;
     match rel(source, end) {
         None => Ok((Some((token, relation, right)), end)),
         Some(_) => Err(Refused::Fault(end)),
     }
 }
 
-/// An expression behind any number of prefix operators.
+/// An expression after any number of prefix operators.
 #[cycle(expression)]
-fn prefixed(source: &Source, at: usize) -> Parsed<Expr>
-    requires { at ≤ length (all_of source.now) }
-    ensures { Outcome 1 (expressions prefixed_rank) tree (all_of source.now) at result }
+fn prefix_expression(source: &Source, at: usize) -> Parsed<Expr>
+    requires { at ≤ length (source_lexemes source.now) }
+    ensures { Outcome 1 (expressions prefix_rank) tree (source_lexemes source.now) at result }
 {
     if source.is(at, MINUS) {
-        return negated(source, at);
+        return negation(source, at);
     }
     if source.is(at, BANG) {
-        return denied(source, at);
+        return logical_not(source, at);
     }
-    alone(source, at)
+    primary_expression(source, at)
 }
 
-/// An expression behind `-`.
+/// An expression after `-`.
 #[cycle(expression)]
-fn negated(source: &Source, at: usize) -> Parsed<Expr>
-    requires { at ≤ length (all_of source.now) }
-    ensures { Outcome 1 negations tree (all_of source.now) at result }
+fn negation(source: &Source, at: usize) -> Parsed<Expr>
+    requires { at ≤ length (source_lexemes source.now) }
+    ensures { Outcome 1 negations tree (source_lexemes source.now) at result }
 {
     let (token, at) = source.expect(at, MINUS)?;
-    let (arg, at) = prefixed(source, at)?;
+    let (arg, at) = prefix_expression(source, at)?;
     let arg = source.boxed(arg)?;
     Ok((
         Expr::Neg {
@@ -157,14 +161,14 @@ fn negated(source: &Source, at: usize) -> Parsed<Expr>
     ))
 }
 
-/// An expression behind `!`.
+/// An expression after `!`.
 #[cycle(expression)]
-fn denied(source: &Source, at: usize) -> Parsed<Expr>
-    requires { at ≤ length (all_of source.now) }
-    ensures { Outcome 1 denials tree (all_of source.now) at result }
+fn logical_not(source: &Source, at: usize) -> Parsed<Expr>
+    requires { at ≤ length (source_lexemes source.now) }
+    ensures { Outcome 1 logical_nots tree (source_lexemes source.now) at result }
 {
     let (token, at) = source.expect(at, BANG)?;
-    let (arg, at) = prefixed(source, at)?;
+    let (arg, at) = prefix_expression(source, at)?;
     let arg = source.boxed(arg)?;
     Ok((
         Expr::Not {
@@ -175,11 +179,11 @@ fn denied(source: &Source, at: usize) -> Parsed<Expr>
     ))
 }
 
-/// An expression with no operator. No bracket opens behind it.
+/// A primary expression. No opening bracket follows it.
 #[cycle(expression)]
-fn alone(source: &Source, at: usize) -> Parsed<Expr>
-    requires { at ≤ length (all_of source.now) }
-    ensures { Outcome 1 (expressions alone_rank) tree (all_of source.now) at result }
+fn primary_expression(source: &Source, at: usize) -> Parsed<Expr>
+    requires { at ≤ length (source_lexemes source.now) }
+    ensures { Outcome 1 (expressions primary_rank) tree (source_lexemes source.now) at result }
 {
     let (e, end) = value(source, at)?;
     if source.is(end, OPEN_BRACKET) {
@@ -188,11 +192,11 @@ fn alone(source: &Source, at: usize) -> Parsed<Expr>
     Ok((e, end))
 }
 
-/// A number, a name, a field, a call or an expression in brackets, whatever is behind it.
+/// A number, a name, a field, a call or an expression in brackets, whatever token follows.
 #[cycle(expression)]
 fn value(source: &Source, at: usize) -> Parsed<Expr>
-    requires { at ≤ length (all_of source.now) }
-    ensures { Settled (expressions alone_rank) tree (all_of source.now) at result }
+    requires { at ≤ length (source_lexemes source.now) }
+    ensures { Settled (expressions primary_rank) tree (source_lexemes source.now) at result }
 {
     if source.is(at, TokenKind::Name) {
         return name(source, at);
@@ -211,8 +215,8 @@ fn value(source: &Source, at: usize) -> Parsed<Expr>
 
 /// A number.
 fn number(source: &Source, at: usize) -> Parsed<Expr>
-    requires { at ≤ length (all_of source.now) }
-    ensures { Outcome 1 numbers tree (all_of source.now) at result }
+    requires { at ≤ length (source_lexemes source.now) }
+    ensures { Outcome 1 numbers tree (source_lexemes source.now) at result }
 {
     match digits(source, at) {
         Some(((token, value), end)) => Ok((literal(token.place, value), end)),
@@ -227,11 +231,11 @@ fn literal(place: Place, value: i64) -> Expr
     Expr::Number { place, value }
 }
 
-/// A name, or a field at an element.
+/// A name, or a field with its argument.
 #[cycle(expression)]
 fn name(source: &Source, at: usize) -> Parsed<Expr>
-    requires { at ≤ length (all_of source.now) }
-    ensures { Outcome 1 names tree (all_of source.now) at result }
+    requires { at ≤ length (source_lexemes source.now) }
+    ensures { Outcome 1 names tree (source_lexemes source.now) at result }
 {
     let (token, at) = source.expect(at, TokenKind::Name)?;
     let (arg, at) = argument(source, at)?;
@@ -243,11 +247,11 @@ fn name(source: &Source, at: usize) -> Parsed<Expr>
     Ok((Expr::Field { place, name, arg }, at))
 }
 
-/// An argument in brackets, if there is one. No bracket opens behind it.
+/// An argument in brackets, if there is one. No opening bracket follows it.
 #[cycle(expression)]
 pub(crate) fn argument(source: &Source, at: usize) -> Parsed<Option<Expr>>
-    requires { at ≤ length (all_of source.now) }
-    ensures { Outcome 0 arguments (option_map tree) (all_of source.now) at result }
+    requires { at ≤ length (source_lexemes source.now) }
+    ensures { Outcome 0 arguments (option_map tree) (source_lexemes source.now) at result }
 {
     if !source.is(at, OPEN_BRACKET) {
         return Ok((None, at));
@@ -262,8 +266,8 @@ pub(crate) fn argument(source: &Source, at: usize) -> Parsed<Option<Expr>>
 /// A function of an element.
 #[cycle(expression)]
 fn call(source: &Source, at: usize) -> Parsed<Expr>
-    requires { at ≤ length (all_of source.now) }
-    ensures { Outcome 1 calls tree (all_of source.now) at result }
+    requires { at ≤ length (source_lexemes source.now) }
+    ensures { Outcome 1 calls tree (source_lexemes source.now) at result }
 {
     let Some(((token, fun), at)) = fun(source, at) else {
         return Err(Refused::Fault(at));
@@ -283,8 +287,8 @@ fn call(source: &Source, at: usize) -> Parsed<Expr>
 /// An orientation of an element, towards another.
 #[cycle(expression)]
 fn towards(source: &Source, at: usize) -> Parsed<Expr>
-    requires { at ≤ length (all_of source.now) }
-    ensures { Outcome 1 orientations tree (all_of source.now) at result }
+    requires { at ≤ length (source_lexemes source.now) }
+    ensures { Outcome 1 orientations tree (source_lexemes source.now) at result }
 {
     let (word, at) = source.expect(at, TOWARDS)?;
     let (_, at) = source.expect(at, OPEN_BRACKET)?;
@@ -307,8 +311,8 @@ fn towards(source: &Source, at: usize) -> Parsed<Expr>
 /// An expression in brackets.
 #[cycle(expression)]
 pub(crate) fn bracketed(source: &Source, at: usize) -> Parsed<Expr>
-    requires { at ≤ length (all_of source.now) }
-    ensures { Outcome 1 brackets tree (all_of source.now) at result }
+    requires { at ≤ length (source_lexemes source.now) }
+    ensures { Outcome 1 brackets tree (source_lexemes source.now) at result }
 {
     let (_, at) = source.expect(at, OPEN_BRACKET)?;
     let (e, at) = expression(source, at)?;

@@ -1,9 +1,10 @@
-//! Worked cases of the grammar's faults, which the checker proves. Each function does nothing; its contract is the case.
+//! Worked cases of the grammar's faults, proved by the checker. Each is the contract of a function with an empty body.
 #![allow(dead_code)]
 
-ghost use Rattle.std.specs.Prelude.{None, []};
+ghost use Rattle.std.specs.Prelude.{None, [], ◌+◌};
 ghost use Rattle.liszt_parser.specs.CaseTexts.{HasFault, syntax_at, deep_at, print_in_for, mesh_in_for, no_semicolon, two_prints};
-ghost use Rattle.liszt_parser.specs.CaseTexts.{print_alone, minus_bracket, plain_set, two_below, opened, nested, brace_in};
+ghost use Rattle.liszt_parser.specs.CaseTexts.{only_print, minus_bracket, plain_set, two_below, opened, nested, brace_in};
+ghost use Rattle.liszt_base.specs.Limits.{depth_limit};
 ghost use Rattle.liszt_parser.specs.Grammar.{Derives};
 ghost use Rattle.liszt_tree.specs.Tree.{no_item};
 
@@ -13,32 +14,32 @@ fn empty_text()
     ensures tree { Derives [] no_item }
 {}
 
-/// No `print` stands in a comprehension.
+/// A comprehension has no `print`.
 fn print_in_a_body()
     ensures at_print { HasFault print_in_for (syntax_at 1 26) }
 {}
 
-/// A comprehension in a body is over the set of an element, and not over the mesh.
+/// A `for` in a body is over the set of an element, not over the mesh.
 fn mesh_in_a_body()
     ensures at_mesh { HasFault mesh_in_for (syntax_at 1 45) }
 {}
 
-/// An `else` stands behind a block only.
+/// An `else` follows a block only.
 fn else_in_a_block()
     ensures at_else { HasFault no_semicolon (syntax_at 1 20) }
 {}
 
-/// The 65th open bracket is too deep, the 64th isn't, and where no program goes on at the 65th either, it is Syntax.
+/// The first open bracket past the limit is Deep, the one before it is not; a token there that continues no program is Syntax.
 fn open_brackets()
-    ensures deep { HasFault (opened 65) (deep_at 1 71) }
-    ensures fits { HasFault (nested 64) None }
-    ensures syntax_first { HasFault (brace_in 64) (syntax_at 1 71) }
+    ensures deep { HasFault (opened (depth_limit + 1)) (deep_at 1 71) }
+    ensures fits { HasFault (nested depth_limit) None }
+    ensures syntax_first { HasFault (brace_in depth_limit) (syntax_at 1 71) }
 {}
 
-/// A statement ends with `;` where another follows, and what it lacks is missed at the end of the text.
+/// A statement ends with `;` where another one follows; a part that is missing at the end of the text is reported there.
 fn statements_end()
     ensures at_print { HasFault two_prints (syntax_at 1 9) }
-    ensures at_end { HasFault print_alone (syntax_at 1 6) }
+    ensures at_end { HasFault only_print (syntax_at 1 6) }
 {}
 
 /// An operator before brackets, and an assignment, with no `;` before the end.
@@ -47,7 +48,7 @@ fn no_faults()
     ensures assignment { HasFault plain_set None }
 {}
 
-/// No comparison is compared.
+/// A comparison is not an operand of a comparison.
 fn comparisons()
     ensures at_below { HasFault two_below (syntax_at 1 13) }
 {}

@@ -1,44 +1,44 @@
-//! The items of a main program, read as the statements of a body are.
+//! The items of a main program, read like the statements of a body.
 
 ghost use Rattle.std.specs.Prelude.{◌≤◌, length, map};
 ghost use Rattle.std.specs.Option.{option_map};
 ghost use Rattle.liszt_tree.specs.Tree.{item_tree, main_of};
-ghost use Rattle.liszt_parser.specs.Productions.{comprehensions, fields, main_assignments, main_blocks, main_branches, main_elses, main_items, main_repetitions, main_variables, mains, prints};
-ghost use Rattle.liszt_parser.specs.Reading.{Outcome, Settled};
-ghost use Rattle.liszt_parser.specs.Sources.{all_of};
+ghost use Rattle.liszt_parser.specs.Internal.Productions.{comprehensions, fields, main_assignments, main_blocks, main_branches, main_elses, main_items, main_repetitions, main_variables, mains, prints};
+ghost use Rattle.liszt_parser.specs.Internal.Reading.{Outcome, Settled};
+ghost use Rattle.liszt_parser.specs.Internal.Sources.{source_lexemes};
 
-use crate::choices::{how, kind, whole};
+use crate::choices::{how, kind, mesh_set};
 use crate::expression::bracketed;
 use crate::kinds::{
     ARROW, CLOSE_BRACE, CLOSE_BRACKET, COLON, ELSE, FIELD, FOR, IF, MESH, OPEN_BRACE, OPEN_BRACKET,
     PRINT, SET_TO, VAR, WHILE,
 };
 use crate::source::{Parsed, Source};
-use crate::statement::{block, closed, declared, ends};
+use crate::statement::{block, closed, declaration, ends};
 use crate::tokens::push;
 use liszt_base::Refused;
 use liszt_lexer::TokenKind;
 use liszt_tree::{Item, ItemList};
 use sqlite_items::Items;
 
-/// An item. Nothing but an `if` goes on with `else`.
+/// An item. Only an `if` may be followed by `else`.
 #[cycle(item)]
 fn item(source: &Source, at: usize) -> Parsed<Item>
-    requires { at ≤ length (all_of source.now) }
-    ensures { Outcome 1 main_items item_tree (all_of source.now) at result }
+    requires { at ≤ length (source_lexemes source.now) }
+    ensures { Outcome 1 main_items item_tree (source_lexemes source.now) at result }
 {
-    let (i, end) = begun(source, at)?;
+    let (i, end) = item_by_token(source, at)?;
     if source.is(end, ELSE) {
         return Err(Refused::Fault(end));
     }
     Ok((i, end))
 }
 
-/// An item, by its first token, whatever is behind it.
+/// An item, by its first token, whatever token follows the item.
 #[cycle(item)]
-fn begun(source: &Source, at: usize) -> Parsed<Item>
-    requires { at ≤ length (all_of source.now) }
-    ensures { Settled main_items item_tree (all_of source.now) at result }
+fn item_by_token(source: &Source, at: usize) -> Parsed<Item>
+    requires { at ≤ length (source_lexemes source.now) }
+    ensures { Settled main_items item_tree (source_lexemes source.now) at result }
 {
     if source.is(at, FIELD) {
         return field(source, at);
@@ -63,8 +63,8 @@ fn begun(source: &Source, at: usize) -> Parsed<Item>
 
 /// A field.
 fn field(source: &Source, at: usize) -> Parsed<Item>
-    requires { at ≤ length (all_of source.now) }
-    ensures { Outcome 1 fields item_tree (all_of source.now) at result }
+    requires { at ≤ length (source_lexemes source.now) }
+    ensures { Outcome 1 fields item_tree (source_lexemes source.now) at result }
 {
     let (word, at) = source.expect(at, FIELD)?;
     let (name, at) = source.expect(at, TokenKind::Name)?;
@@ -89,10 +89,10 @@ fn field(source: &Source, at: usize) -> Parsed<Item>
 
 /// A `var`.
 fn variable(source: &Source, at: usize) -> Parsed<Item>
-    requires { at ≤ length (all_of source.now) }
-    ensures { Outcome 1 main_variables item_tree (all_of source.now) at result }
+    requires { at ≤ length (source_lexemes source.now) }
+    ensures { Outcome 1 main_variables item_tree (source_lexemes source.now) at result }
 {
-    let ((word, name, init), end) = declared(source, at, VAR)?;
+    let ((word, name, init), end) = declaration(source, at, VAR)?;
     let (place, at, name) = (word.place, name.place, source.name(name)?);
     Ok((
         Item::Var {
@@ -107,8 +107,8 @@ fn variable(source: &Source, at: usize) -> Parsed<Item>
 
 /// An assignment.
 fn assignment(source: &Source, at: usize) -> Parsed<Item>
-    requires { at ≤ length (all_of source.now) }
-    ensures { Outcome 1 main_assignments item_tree (all_of source.now) at result }
+    requires { at ≤ length (source_lexemes source.now) }
+    ensures { Outcome 1 main_assignments item_tree (source_lexemes source.now) at result }
 {
     let (word, at) = source.expect(at, TokenKind::Name)?;
     let Some(((_, how), at)) = how(source, at) else {
@@ -129,8 +129,8 @@ fn assignment(source: &Source, at: usize) -> Parsed<Item>
 
 /// A `print`.
 fn output(source: &Source, at: usize) -> Parsed<Item>
-    requires { at ≤ length (all_of source.now) }
-    ensures { Outcome 1 prints item_tree (all_of source.now) at result }
+    requires { at ≤ length (source_lexemes source.now) }
+    ensures { Outcome 1 prints item_tree (source_lexemes source.now) at result }
 {
     let (word, at) = source.expect(at, PRINT)?;
     let (value, at) = closed(source, at)?;
@@ -143,11 +143,11 @@ fn output(source: &Source, at: usize) -> Parsed<Item>
     ))
 }
 
-/// An `if`, with its `else` or with none.
+/// An `if` with or without `else`.
 #[cycle(item)]
 fn conditional(source: &Source, at: usize) -> Parsed<Item>
-    requires { at ≤ length (all_of source.now) }
-    ensures { Outcome 1 main_branches item_tree (all_of source.now) at result }
+    requires { at ≤ length (source_lexemes source.now) }
+    ensures { Outcome 1 main_branches item_tree (source_lexemes source.now) at result }
 {
     let (word, at) = source.expect(at, IF)?;
     let (test, at) = bracketed(source, at)?;
@@ -184,8 +184,9 @@ fn conditional(source: &Source, at: usize) -> Parsed<Item>
 /// An `else` and its block, if there is one. No `else` follows it.
 #[cycle(item)]
 fn otherwise(source: &Source, at: usize) -> Parsed<Option<ItemList>>
-    requires { at ≤ length (all_of source.now) }
-    ensures { Outcome 0 main_elses (option_map (λ b. main_of (map item_tree b))) (all_of source.now) at result }
+    requires { at ≤ length (source_lexemes source.now) }
+    ensures { Outcome 0 main_elses (option_map (λ b. main_of (map item_tree b)))
+        (source_lexemes source.now) at result }
 {
     if !source.is(at, ELSE) {
         return Ok((None, at));
@@ -201,8 +202,8 @@ fn otherwise(source: &Source, at: usize) -> Parsed<Option<ItemList>>
 /// A `while`.
 #[cycle(item)]
 fn repetition(source: &Source, at: usize) -> Parsed<Item>
-    requires { at ≤ length (all_of source.now) }
-    ensures { Outcome 1 main_repetitions item_tree (all_of source.now) at result }
+    requires { at ≤ length (source_lexemes source.now) }
+    ensures { Outcome 1 main_repetitions item_tree (source_lexemes source.now) at result }
 {
     let (word, at) = source.expect(at, WHILE)?;
     let (test, at) = bracketed(source, at)?;
@@ -219,14 +220,14 @@ fn repetition(source: &Source, at: usize) -> Parsed<Item>
 
 /// A comprehension, a `for` over all elements of a kind.
 fn comprehension(source: &Source, at: usize) -> Parsed<Item>
-    requires { at ≤ length (all_of source.now) }
-    ensures { Outcome 1 comprehensions item_tree (all_of source.now) at result }
+    requires { at ≤ length (source_lexemes source.now) }
+    ensures { Outcome 1 comprehensions item_tree (source_lexemes source.now) at result }
 {
     let (word, at) = source.expect(at, FOR)?;
     let (_, at) = source.expect(at, OPEN_BRACKET)?;
     let (name, at) = source.expect(at, TokenKind::Name)?;
     let (_, at) = source.expect(at, ARROW)?;
-    let Some(((_, over), at)) = whole(source, at) else {
+    let Some(((_, over), at)) = mesh_set(source, at) else {
         return Err(Refused::Fault(at));
     };
     let (_, at) = source.expect(at, OPEN_BRACKET)?;
@@ -250,8 +251,9 @@ fn comprehension(source: &Source, at: usize) -> Parsed<Item>
 /// Items up to `}` or the end.
 #[cycle(item)]
 pub(crate) fn items(source: &Source, at: usize) -> Parsed<ItemList>
-    requires { at ≤ length (all_of source.now) }
-    ensures { Outcome 0 mains (λ b. main_of (map item_tree b)) (all_of source.now) at result }
+    requires { at ≤ length (source_lexemes source.now) }
+    ensures { Outcome 0 mains (λ b. main_of (map item_tree b))
+        (source_lexemes source.now) at result }
 {
     let mut here = at;
     let mut items = Items::new(source.alloc());
@@ -266,8 +268,9 @@ pub(crate) fn items(source: &Source, at: usize) -> Parsed<ItemList>
 /// Items in braces.
 #[cycle(item)]
 fn main_block(source: &Source, at: usize) -> Parsed<ItemList>
-    requires { at ≤ length (all_of source.now) }
-    ensures { Outcome 1 main_blocks (λ b. main_of (map item_tree b)) (all_of source.now) at result }
+    requires { at ≤ length (source_lexemes source.now) }
+    ensures { Outcome 1 main_blocks (λ b. main_of (map item_tree b))
+        (source_lexemes source.now) at result }
 {
     let (_, at) = source.expect(at, OPEN_BRACE)?;
     let (items, at) = items(source, at)?;

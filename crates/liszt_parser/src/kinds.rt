@@ -1,8 +1,8 @@
-//! The words and the symbols of the grammar, by their places in the lists of the tokens, and what they stand for.
+//! The words and the symbols of the grammar, by their indices in the lists of the lexer, and their values.
 
 ghost use Rattle.std.specs.Prelude.{◌≡◌};
 ghost use Rattle.liszt_parser.specs.Grammar as Grammar;
-ghost use Rattle.liszt_parser.specs.Productions as Productions;
+ghost use Rattle.liszt_parser.specs.Internal.Productions as Productions;
 
 use liszt_base::{Kind, Op, SetName};
 use liszt_lexer::TokenKind;
@@ -79,9 +79,9 @@ pub(crate) fn kind_of(kind: TokenKind) -> Option<Kind>
     }
 }
 
-/// The kind all of whose elements a word names.
-pub(crate) fn whole_of(kind: TokenKind) -> Option<Kind>
-    ensures { result ≡ Grammar.whole_of kind }
+/// The kind of the set of a mesh that a word names.
+pub(crate) fn mesh_set_of(kind: TokenKind) -> Option<Kind>
+    ensures { result ≡ Grammar.mesh_set_of kind }
 {
     match kind {
         TokenKind::Word(21) => Some(Kind::Vertex),
@@ -106,7 +106,7 @@ pub(crate) fn set_of(kind: TokenKind) -> Option<SetName>
     }
 }
 
-/// The operator of a level that a symbol is.
+/// The operator of a level that a symbol denotes.
 pub(crate) fn sign_of(level: Level, kind: TokenKind) -> Option<Sign>
     ensures { result ≡ Grammar.sign_of level kind }
 {
@@ -122,7 +122,7 @@ pub(crate) fn sign_of(level: Level, kind: TokenKind) -> Option<Sign>
     }
 }
 
-/// The comparison that a symbol is.
+/// The comparison operator that a symbol denotes.
 pub(crate) fn rel_of(kind: TokenKind) -> Option<Rel>
     ensures { result ≡ Grammar.rel_of kind }
 {
@@ -137,7 +137,7 @@ pub(crate) fn rel_of(kind: TokenKind) -> Option<Rel>
     }
 }
 
-/// How a symbol, `min=` or `max=` assigns.
+/// The assignment operator that a symbol, `min=` or `max=` denotes.
 pub(crate) fn how_of(kind: TokenKind) -> Option<How>
     ensures { result ≡ Grammar.how_of kind }
 {
@@ -155,7 +155,7 @@ pub(crate) fn how_of(kind: TokenKind) -> Option<How>
     }
 }
 
-/// The number that digits are.
+/// The value of a number token.
 pub(crate) fn number_of(kind: TokenKind) -> Option<i64>
     ensures { result ≡ Productions.number_of kind }
 {

@@ -1,35 +1,35 @@
-//! The operand of a prefix operator, token by token, and what is kept of the tokens for their depth.
+//! The operand of a prefix operator, token by token, and the counts of the tokens that give their depth.
 ghost use Rattle.std.specs.Prelude.{◌≡◌, ◌<◌, ◌≤◌, ◌+◌, ◌^◌, ◌&&◌, ◌||◌, not, IfOk};
 ghost use Rattle.std.specs.List.{All, count_by, filter_map};
-ghost use Rattle.liszt_parser.specs.Operands.{begun_by, ends_operand_by, is_named, is_symbol_kind, nested_of, stepped, taken};
+ghost use Rattle.liszt_parser.specs.Internal.Operands.{operand_start, kind_ends_operand, is_named, is_symbol_kind, nested_brackets, operand_step, operands_step};
 
 use liszt_base::NoMemory;
 use liszt_lexer::TokenKind;
 use std::alloc::Global;
 
-/// What the tokens behind a prefix operator have come to, as long as they may not be its whole operand.
+/// The state of the operand of a prefix operator after some tokens, while the operand is not known to be complete.
 #[derive(Clone, Copy, Debug, PartialEq, Eq)]
 pub enum Operand {
-    /// Nothing yet, but further prefix operators.
+    /// No tokens, or further prefix operators.
     Awaited,
-    /// A name, which is the operand unless a bracket opens.
+    /// A name, which is the operand unless an opening bracket follows.
     Named,
-    /// A word of the language, behind which a bracket has to open.
+    /// A reserved word, which an opening bracket has to follow.
     Worded,
-    /// So many brackets that are open.
+    /// The number of open brackets.
     Inside(usize),
-    /// What never becomes an operand.
+    /// Tokens with which no operand starts.
     Never,
 }
 
 impl Operand {
-    /// What one token more makes of it; `None` where that ends the operand.
+    /// The state after one more token; `None` where the operand was complete or the token completes it.
     pub fn step(self, kind: TokenKind) -> Option<Operand>
-        requires { nested_of self + 1 < 2 ^ 64 }
-        ensures { result ≡ stepped self kind }
+        requires { nested_brackets self + 1 < 2 ^ 64 }
+        ensures { result ≡ operand_step self kind }
     {
         match self {
-            Operand::Awaited => begun(kind),
+            Operand::Awaited => operand_start(kind),
             Operand::Named if is_open(kind) => Some(Operand::Inside(1)),
             Operand::Named => None,
             Operand::Worded if is_open(kind) => Some(Operand::Inside(1)),
@@ -44,9 +44,9 @@ impl Operand {
     }
 }
 
-/// What the first token behind a prefix operator makes of its operand.
-fn begun(kind: TokenKind) -> Option<Operand>
-    ensures { result ≡ begun_by kind }
+/// The state after the first token of the operand; `None` where the token is the operand.
+fn operand_start(kind: TokenKind) -> Option<Operand>
+    ensures { result ≡ operand_start kind }
 {
     match kind {
         TokenKind::Number(_) => None,
@@ -72,9 +72,9 @@ fn is_close(kind: TokenKind) -> bool
     matches!(kind, TokenKind::Symbol(1))
 }
 
-/// Whether an operand may end with this token: then a `-` behind it is no prefix operator.
+/// Whether an operand may end with this token. A `-` after such a token is not a prefix operator.
 pub fn ends_operand(kind: TokenKind) -> bool
-    ensures { result ≡ ends_operand_by kind }
+    ensures { result ≡ kind_ends_operand kind }
 {
     matches!(
         kind,
@@ -83,34 +83,35 @@ pub fn ends_operand(kind: TokenKind) -> bool
 }
 
 /// Whether a token is `(` or `{`.
-pub fn opens(kind: TokenKind) -> bool
+pub fn is_opening(kind: TokenKind) -> bool
     ensures { result ≡ (is_symbol_kind 0 kind || is_symbol_kind 2 kind) }
 {
     matches!(kind, TokenKind::Symbol(0 | 2))
 }
 
 /// Whether a token is `)` or `}`.
-pub fn closes(kind: TokenKind) -> bool
+pub fn is_closing(kind: TokenKind) -> bool
     ensures { result ≡ (is_symbol_kind 1 kind || is_symbol_kind 3 kind) }
 {
     matches!(kind, TokenKind::Symbol(1 | 3))
 }
 
-/// Whether a token is a prefix operator: a `-` isn't behind an operand, a `!` always is.
-pub fn is_prefix(behind_operand: bool, kind: TokenKind) -> bool
-    ensures { result ≡ (is_symbol_kind 21 kind || (is_symbol_kind 17 kind && not behind_operand)) }
+/// Whether a token is a prefix operator: a `!`, or a `-` that is not after an operand.
+pub fn is_prefix(after_operand: bool, kind: TokenKind) -> bool
+    ensures { result ≡ (is_symbol_kind 21 kind || (is_symbol_kind 17 kind && not after_operand)) }
 {
     match kind {
         TokenKind::Symbol(21) => true,
-        TokenKind::Symbol(17) => !behind_operand,
+        TokenKind::Symbol(17) => !after_operand,
         _ => false,
     }
 }
 
-/// What one token more makes of the operands, without those that it ends.
-fn step_all(alloc: Global, operands: &[Operand], kind: TokenKind) -> Result<Vec<Operand>, NoMemory>
-    requires { All (λ o. nested_of o + 1 < 2 ^ 64) operands.now }
-    ensures { IfOk result (λ next. next.items ≡ filter_map (λ o. stepped o kind) operands.now) }
+/// The states of the operands after one more token, without the operands that are complete.
+fn step_each(alloc: Global, operands: &[Operand], kind: TokenKind) -> Result<Vec<Operand>, NoMemory>
+    requires { All (λ o. nested_brackets o + 1 < 2 ^ 64) operands.now }
+    ensures { IfOk result (λ next. next.items ≡ filter_map
+        (λ o. operand_step o kind) operands.now) }
 {
     let mut next = Vec::new(alloc);
     for operand in operands {
@@ -121,24 +122,24 @@ fn step_all(alloc: Global, operands: &[Operand], kind: TokenKind) -> Result<Vec<
     Ok(next)
 }
 
-/// The operands once a token was taken: those that it leaves, and one more behind a prefix operator.
-pub fn take_all(
+/// The operands after one more token: the incomplete ones, and a new one after a prefix operator.
+pub fn step_operands(
     alloc: Global,
     operands: &[Operand],
     prefix: bool,
     kind: TokenKind,
 ) -> Result<Vec<Operand>, NoMemory>
-    requires { All (λ o. nested_of o + 1 < 2 ^ 64) operands.now }
-    ensures { IfOk result (λ next. next.items ≡ taken prefix operands.now kind) }
+    requires { All (λ o. nested_brackets o + 1 < 2 ^ 64) operands.now }
+    ensures { IfOk result (λ next. next.items ≡ operands_step prefix operands.now kind) }
 {
-    let mut next = step_all(alloc, operands, kind)?;
+    let mut next = step_each(alloc, operands, kind)?;
     if prefix {
         next.push(Operand::Awaited)?;
     }
     Ok(next)
 }
 
-/// How many operands are wanting if no token follows: a name alone is whole.
+/// The number of operands that are incomplete if no token follows. A name is complete.
 pub fn count_waiting(operands: &[Operand]) -> usize
     ensures { result ≡ count_by (λ o. not (is_named o)) operands.now }
 {
@@ -148,15 +149,15 @@ pub fn count_waiting(operands: &[Operand]) -> usize
         .count()
 }
 
-/// The tokens so far, as far as their depth goes.
+/// The counts of the tokens so far that give their depth.
 #[derive(Debug, Drop)]
 pub struct Nesting {
-    /// How many brackets and braces opened, and how many closed.
+    /// The numbers of opening and of closing brackets and braces.
     pub opened: usize,
     pub closed: usize,
     /// Whether an operand may end with the last token.
-    pub behind_operand: bool,
-    /// The operands of the prefix operators, as long as they may not be whole.
+    pub after_operand: bool,
+    /// The operands of prefix operators that are not known to be complete.
     pub operands: Vec<Operand>,
-    ghost few: { All (λ o. nested_of o ≤ opened) operands.items },
+    ghost few: { All (λ o. nested_brackets o ≤ opened) operands.items },
 }

@@ -1,7 +1,7 @@
 ghost use Rattle.std.specs.List.{AllByRecursion};
 ghost use Rattle.liszt_parser.specs.Grammar.{lexemes};
-ghost use Rattle.liszt_parser.specs.Lies.{Lies};
-ghost use Rattle.liszt_parser.specs.Parsed.{IsParsed};
+ghost use Rattle.liszt_parser.specs.Internal.TokenBounds.{IsInText};
+ghost use Rattle.liszt_parser.specs.Internal.ProgramParsing.{IsParsed};
 
 use crate::item::items;
 use crate::source::Source;
@@ -10,14 +10,14 @@ use liszt_lexer::Token;
 use liszt_tree::Program;
 use std::alloc::Global;
 
-/// The program that the tokens of a text are, or the place of the first of them with which no program goes on. The end counts
-/// as a token.
+/// The program that the tokens of a text are, or the index of the first token that continues no program. The end counts as a
+/// token.
 pub(crate) fn read_program(
     alloc: Global,
     text: &[u8],
     tokens: &[Token],
 ) -> Result<Program, Refused<usize>>
-    requires { AllByRecursion (Lies text.now) tokens.now }
+    requires { AllByRecursion (IsInText text.now) tokens.now }
     ensures { IsParsed (lexemes text.now tokens.now) result }
 {
     let source = Source::new(alloc, text, tokens);

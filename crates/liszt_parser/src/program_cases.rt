@@ -1,4 +1,4 @@
-//! Worked cases of the grammar, programs with real places. Each function does nothing; its contract is the case.
+//! Worked cases of the grammar, programs with real places. Each is the contract of a function with an empty body.
 #![allow(dead_code)]
 
 ghost use Rattle.std.specs.Prelude.{◌≡◌, codes, map, Ok};
@@ -23,12 +23,14 @@ fn sums_and_tests()
     ensures tokens { tokens_of other_text ≡ Ok other_tokens }
     ensures tree { Derives (lexemes other_text other_tokens) other_tree }
     ensures nodes { main_nodes other_tree ≡ 21 }
-    ensures canonical { canonical other_tree ≡ codes "var m = 1 + 2 * -3 - 4;\nwhile (m <= 9 && !(m == 8)) {\n  m min= m - 1;\n}\n" }
+    ensures canonical { canonical other_tree
+        ≡ codes "var m = 1 + 2 * -3 - 4;\nwhile (m <= 9 && !(m == 8)) {\n  m min= m - 1;\n}\n" }
 {}
 
-/// Every other construct: blocks with and without `else`, an empty one, and each statement of a body.
+/// Every other construct: blocks with and without `else`, an empty block, and each statement of a body.
 fn every_construct()
     ensures tree { Derives (map lexeme_of every_words) every_tree }
     ensures nodes { main_nodes every_tree ≡ 53 }
-    ensures canonical { canonical every_tree ≡ codes "var m = -1;\nfield F : Face = 0;\nif (m == 0) {\n  print m;\n} else {\n  m = 2;\n}\nfor (f <- faces(mesh)) {\n  val c = inside(f);\n  var n = 1;\n  if (valid(c) || n > 2) {\n    n -= 1;\n  } else {\n  }\n  while (n < 3) {\n    n *= 2;\n  }\n  for (e <- edges_ccw(f)) {\n    F(f) += ID(towards(e, head(e))) % 7;\n  }\n  if (F(f) != 0) {\n    F(f) = n;\n  }\n}\n" }
+    ensures canonical { canonical every_tree
+        ≡ codes "var m = -1;\nfield F : Face = 0;\nif (m == 0) {\n  print m;\n} else {\n  m = 2;\n}\nfor (f <- faces(mesh)) {\n  val c = inside(f);\n  var n = 1;\n  if (valid(c) || n > 2) {\n    n -= 1;\n  } else {\n  }\n  while (n < 3) {\n    n *= 2;\n  }\n  for (e <- edges_ccw(f)) {\n    F(f) += ID(towards(e, head(e))) % 7;\n  }\n  if (F(f) != 0) {\n    F(f) = n;\n  }\n}\n" }
 {}

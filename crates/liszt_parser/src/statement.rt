@@ -1,13 +1,13 @@
-//! Statements of a comprehension's body, read one behind the other by a loop, and blocks by recursion.
+//! Statements of the body of a comprehension. A list of statements is read by a loop, blocks by recursion.
 
 ghost use Rattle.std.specs.Prelude.{◌≤◌, IfOk, length, drop, map};
 ghost use Rattle.std.specs.Option.{option_map};
 ghost use Rattle.liszt_tree.specs.Tree.{expression as tree, body_of, statement_tree};
-ghost use Rattle.liszt_parser.specs.Productions.{assignments, blocks, bodies, branches, closings, constants, elses, repetitions, set_loops, statements, variables};
-ghost use Rattle.liszt_parser.specs.Productions as Productions;
-ghost use Rattle.liszt_parser.specs.Reading.{EndsAt, Outcome, Settled};
-ghost use Rattle.liszt_parser.specs.Lies.{Lies};
-ghost use Rattle.liszt_parser.specs.Sources.{all_of, seen_as};
+ghost use Rattle.liszt_parser.specs.Internal.Productions.{assignments, blocks, bodies, branches, closings, constants, elses, repetitions, set_loops, statements, variables};
+ghost use Rattle.liszt_parser.specs.Internal.Productions as Productions;
+ghost use Rattle.liszt_parser.specs.Internal.Reading.{EndsAt, Outcome, Settled};
+ghost use Rattle.liszt_parser.specs.Internal.TokenBounds.{IsInText};
+ghost use Rattle.liszt_parser.specs.Internal.Sources.{source_lexemes, source_lexeme};
 
 use crate::choices::{how, set};
 use crate::expression::{argument, bracketed, expression};
@@ -22,9 +22,9 @@ use liszt_lexer::{Token, TokenKind};
 use liszt_tree::{Expr, Stmt, StmtList};
 use sqlite_items::Items;
 
-/// Whether a list of statements ends at a place, before `}` or the end.
+/// Whether a list of statements ends at an index, before `}` or the end.
 pub(crate) fn ends(source: &Source, at: usize) -> bool
-    ensures { EndsAt (drop at (all_of source.now)) result }
+    ensures { EndsAt (drop at (source_lexemes source.now)) result }
 {
     match source.token(at) {
         None => true,
@@ -32,10 +32,10 @@ pub(crate) fn ends(source: &Source, at: usize) -> bool
     }
 }
 
-/// What closes a statement: a `;`, or nothing where `}` or the end comes next.
+/// The end of a statement: a `;`, or nothing before a `}` or the end.
 fn closing(source: &Source, at: usize) -> Parsed<()>
-    requires { at ≤ length (all_of source.now) }
-    ensures { Outcome 0 closings (λ _. tt) (all_of source.now) at result }
+    requires { at ≤ length (source_lexemes source.now) }
+    ensures { Outcome 0 closings (λ _. tt) (source_lexemes source.now) at result }
 {
     match source.token(at) {
         None => Ok(((), at)),
@@ -45,21 +45,27 @@ fn closing(source: &Source, at: usize) -> Parsed<()>
     }
 }
 
-/// An expression and what closes it.
+/// An expression and the end of the statement.
 pub(crate) fn closed(source: &Source, at: usize) -> Parsed<Expr>
-    requires { at ≤ length (all_of source.now) }
-    ensures { Outcome 1 Productions.closed tree (all_of source.now) at result }
+    requires { at ≤ length (source_lexemes source.now) }
+    ensures { Outcome 1 Productions.closed tree (source_lexemes source.now) at result }
 {
     let (e, at) = expression(source, at)?;
     let ((), at) = closing(source, at)?;
     Ok((e, at))
 }
 
-/// A declaration that begins with a word: that token, the name's, and the first value.
-pub(crate) fn declared(source: &Source, at: usize, word: TokenKind) -> Parsed<(Token, Token, Expr)>
-    requires within { at ≤ length (all_of source.now) }
-    ensures outcome { Outcome 1 (Productions.declared word) (λ x. (seen_as source.now x.0, (seen_as source.now x.1, tree x.2))) (all_of source.now) at result }
-    ensures lies { IfOk result (λ x. Lies source.now.text.now x.0.1) }
+/// A declaration that starts with a word: the tokens of the word and of the name, and the initial expression.
+pub(crate) fn declaration(
+    source: &Source,
+    at: usize,
+    word: TokenKind,
+) -> Parsed<(Token, Token, Expr)>
+    requires within { at ≤ length (source_lexemes source.now) }
+    ensures outcome { Outcome 1 (Productions.declaration word)
+        (λ x. (source_lexeme source.now x.0, (source_lexeme source.now x.1, tree x.2)))
+        (source_lexemes source.now) at result }
+    ensures in_text { IfOk result (λ x. IsInText source.now.text.now x.0.1) }
 {
     let (word, at) = source.expect(at, word)?;
     let (name, at) = source.expect(at, TokenKind::Name)?;
@@ -68,24 +74,24 @@ pub(crate) fn declared(source: &Source, at: usize, word: TokenKind) -> Parsed<(T
     Ok(((word, name, init), at))
 }
 
-/// A statement. Nothing but an `if` goes on with `else`.
+/// A statement. Only an `if` may be followed by `else`.
 #[cycle(statement)]
 fn statement(source: &Source, at: usize) -> Parsed<Stmt>
-    requires { at ≤ length (all_of source.now) }
-    ensures { Outcome 1 statements statement_tree (all_of source.now) at result }
+    requires { at ≤ length (source_lexemes source.now) }
+    ensures { Outcome 1 statements statement_tree (source_lexemes source.now) at result }
 {
-    let (s, end) = begun(source, at)?;
+    let (s, end) = statement_by_token(source, at)?;
     if source.is(end, ELSE) {
         return Err(Refused::Fault(end));
     }
     Ok((s, end))
 }
 
-/// A statement, by its first token, whatever is behind it.
+/// A statement, by its first token, whatever token follows the statement.
 #[cycle(statement)]
-fn begun(source: &Source, at: usize) -> Parsed<Stmt>
-    requires { at ≤ length (all_of source.now) }
-    ensures { Settled statements statement_tree (all_of source.now) at result }
+fn statement_by_token(source: &Source, at: usize) -> Parsed<Stmt>
+    requires { at ≤ length (source_lexemes source.now) }
+    ensures { Settled statements statement_tree (source_lexemes source.now) at result }
 {
     if source.is(at, VAR) {
         return variable(source, at);
@@ -107,10 +113,10 @@ fn begun(source: &Source, at: usize) -> Parsed<Stmt>
 
 /// A `var`.
 fn variable(source: &Source, at: usize) -> Parsed<Stmt>
-    requires { at ≤ length (all_of source.now) }
-    ensures { Outcome 1 variables statement_tree (all_of source.now) at result }
+    requires { at ≤ length (source_lexemes source.now) }
+    ensures { Outcome 1 variables statement_tree (source_lexemes source.now) at result }
 {
-    let ((word, name, init), end) = declared(source, at, VAR)?;
+    let ((word, name, init), end) = declaration(source, at, VAR)?;
     let (place, at, name) = (word.place, name.place, source.name(name)?);
     Ok((
         Stmt::Var {
@@ -125,10 +131,10 @@ fn variable(source: &Source, at: usize) -> Parsed<Stmt>
 
 /// A `val`.
 fn constant(source: &Source, at: usize) -> Parsed<Stmt>
-    requires { at ≤ length (all_of source.now) }
-    ensures { Outcome 1 constants statement_tree (all_of source.now) at result }
+    requires { at ≤ length (source_lexemes source.now) }
+    ensures { Outcome 1 constants statement_tree (source_lexemes source.now) at result }
 {
-    let ((word, name, init), end) = declared(source, at, VAL)?;
+    let ((word, name, init), end) = declaration(source, at, VAL)?;
     let (place, at, name) = (word.place, name.place, source.name(name)?);
     Ok((
         Stmt::Val {
@@ -143,8 +149,8 @@ fn constant(source: &Source, at: usize) -> Parsed<Stmt>
 
 /// An assignment.
 fn assignment(source: &Source, at: usize) -> Parsed<Stmt>
-    requires { at ≤ length (all_of source.now) }
-    ensures { Outcome 1 assignments statement_tree (all_of source.now) at result }
+    requires { at ≤ length (source_lexemes source.now) }
+    ensures { Outcome 1 assignments statement_tree (source_lexemes source.now) at result }
 {
     let (word, at) = source.expect(at, TokenKind::Name)?;
     let (target, at) = argument(source, at)?;
@@ -165,11 +171,11 @@ fn assignment(source: &Source, at: usize) -> Parsed<Stmt>
     ))
 }
 
-/// An `if`, with its `else` or with none.
+/// An `if` with or without `else`.
 #[cycle(statement)]
 fn conditional(source: &Source, at: usize) -> Parsed<Stmt>
-    requires { at ≤ length (all_of source.now) }
-    ensures { Outcome 1 branches statement_tree (all_of source.now) at result }
+    requires { at ≤ length (source_lexemes source.now) }
+    ensures { Outcome 1 branches statement_tree (source_lexemes source.now) at result }
 {
     let (word, at) = source.expect(at, IF)?;
     let (test, at) = bracketed(source, at)?;
@@ -206,8 +212,9 @@ fn conditional(source: &Source, at: usize) -> Parsed<Stmt>
 /// An `else` and its block, if there is one. No `else` follows it.
 #[cycle(statement)]
 fn otherwise(source: &Source, at: usize) -> Parsed<Option<StmtList>>
-    requires { at ≤ length (all_of source.now) }
-    ensures { Outcome 0 elses (option_map (λ b. body_of (map statement_tree b))) (all_of source.now) at result }
+    requires { at ≤ length (source_lexemes source.now) }
+    ensures { Outcome 0 elses (option_map (λ b. body_of (map statement_tree b)))
+        (source_lexemes source.now) at result }
 {
     if !source.is(at, ELSE) {
         return Ok((None, at));
@@ -223,8 +230,8 @@ fn otherwise(source: &Source, at: usize) -> Parsed<Option<StmtList>>
 /// A `while`.
 #[cycle(statement)]
 fn repetition(source: &Source, at: usize) -> Parsed<Stmt>
-    requires { at ≤ length (all_of source.now) }
-    ensures { Outcome 1 repetitions statement_tree (all_of source.now) at result }
+    requires { at ≤ length (source_lexemes source.now) }
+    ensures { Outcome 1 repetitions statement_tree (source_lexemes source.now) at result }
 {
     let (word, at) = source.expect(at, WHILE)?;
     let (test, at) = bracketed(source, at)?;
@@ -242,8 +249,8 @@ fn repetition(source: &Source, at: usize) -> Parsed<Stmt>
 /// A `for` over the set of an element.
 #[cycle(statement)]
 fn set_loop(source: &Source, at: usize) -> Parsed<Stmt>
-    requires { at ≤ length (all_of source.now) }
-    ensures { Outcome 1 set_loops statement_tree (all_of source.now) at result }
+    requires { at ≤ length (source_lexemes source.now) }
+    ensures { Outcome 1 set_loops statement_tree (source_lexemes source.now) at result }
 {
     let (word, at) = source.expect(at, FOR)?;
     let (_, at) = source.expect(at, OPEN_BRACKET)?;
@@ -274,8 +281,9 @@ fn set_loop(source: &Source, at: usize) -> Parsed<Stmt>
 /// Statements up to `}` or the end.
 #[cycle(statement)]
 fn body(source: &Source, at: usize) -> Parsed<StmtList>
-    requires { at ≤ length (all_of source.now) }
-    ensures { Outcome 0 bodies (λ b. body_of (map statement_tree b)) (all_of source.now) at result }
+    requires { at ≤ length (source_lexemes source.now) }
+    ensures { Outcome 0 bodies (λ b. body_of (map statement_tree b))
+        (source_lexemes source.now) at result }
 {
     let mut here = at;
     let mut body = Items::new(source.alloc());
@@ -290,8 +298,9 @@ fn body(source: &Source, at: usize) -> Parsed<StmtList>
 /// Statements in braces.
 #[cycle(statement)]
 pub(crate) fn block(source: &Source, at: usize) -> Parsed<StmtList>
-    requires { at ≤ length (all_of source.now) }
-    ensures { Outcome 1 blocks (λ b. body_of (map statement_tree b)) (all_of source.now) at result }
+    requires { at ≤ length (source_lexemes source.now) }
+    ensures { Outcome 1 blocks (λ b. body_of (map statement_tree b))
+        (source_lexemes source.now) at result }
 {
     let (_, at) = source.expect(at, OPEN_BRACE)?;
     let (body, at) = body(source, at)?;

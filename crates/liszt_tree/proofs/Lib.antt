@@ -1,3 +1,3 @@
-pub mod Lines
-pub mod Places
-pub mod Walks
+pub mod LineLemmas
+pub mod PlaceLemmas
+pub mod ListPrintLemmas

@@ -1,5 +1,5 @@
--- The canonical text of a tree: one statement on a line, two blanks for each open block, brackets only where the levels of
--- operators ask for them. This project's own profile after Liszt.
+-- The canonical text of a tree: one statement on each line, two blanks for each open block, brackets only where the levels of
+-- operators require them. This project's own profile, after Liszt.
 use Rattle.std.specs.Prelude.{ℕ, zero, suc, ◌+◌, nat_le, nat_lt, Bool, true, false, Option, Some, None, List, [], ◌++◌, codes}
 use Rattle.std.specs.Fmt.{signed_decimal}
 use Rattle.liszt_base.specs.declared.elements.Kind.{Kind}
@@ -26,11 +26,11 @@ kind_word Edge = codes "Edge"
 kind_word Face = codes "Face"
 kind_word Cell = codes "Cell"
 
-abbrev pub whole_word : Kind → List ℕ
-whole_word Vertex = codes "vertices"
-whole_word Edge = codes "edges"
-whole_word Face = codes "faces"
-whole_word Cell = codes "cells"
+abbrev pub mesh_set_word : Kind → List ℕ
+mesh_set_word Vertex = codes "vertices"
+mesh_set_word Edge = codes "edges"
+mesh_set_word Face = codes "faces"
+mesh_set_word Cell = codes "cells"
 
 abbrev pub set_word : SetName → List ℕ
 set_word Vertices = codes "vertices"
@@ -76,7 +76,7 @@ rel_text AtMost = codes "<="
 rel_text Above = codes ">"
 rel_text AtLeast = codes ">="
 
--- LEVELS, the loosest first
+-- LEVELS, the weakest first
 abbrev pub chain_level : Level → ℕ
 chain_level level.Or = 1
 chain_level level.And = 2
@@ -90,68 +90,68 @@ level_of (Neg place arg) = 6
 level_of (Not place arg) = 6
 level_of _ = 7
 
-abbrev pub bracketed : Bool → List ℕ → List ℕ
-bracketed false text = text
-bracketed true text = codes "(" ++ text ++ codes ")"
+abbrev pub bracketed_text : Bool → List ℕ → List ℕ
+bracketed_text false text = text
+bracketed_text true text = codes "(" ++ text ++ codes ")"
 
-abbrev pub spaced : List ℕ → List ℕ
-spaced text = codes " " ++ text ++ codes " "
+abbrev pub spaced_text : List ℕ → List ℕ
+spaced_text text = codes " " ++ text ++ codes " "
 
--- EXPRESSIONS. An operand is in brackets exactly where its level isn't above that of its chain or comparison, and behind a
--- prefix operator where it is below that operator's.
+-- EXPRESSIONS. An operand is in brackets exactly where its level is not above that of its chain or comparison; after a prefix
+-- operator, exactly where its level is below that of the operator.
 abbrev mutual
-  pub text_of : Expression → List ℕ
-  text_of (Number place value) = signed_decimal value
-  text_of (Name place name) = name
-  text_of (Field place name arg) = name ++ codes "(" ++ text_of arg ++ codes ")"
-  text_of (Call place fun arg) = fun_word fun ++ codes "(" ++ text_of arg ++ codes ")"
-  text_of (Towards place arg to) = codes "towards(" ++ text_of arg ++ codes ", " ++ text_of to ++ codes ")"
-  text_of (Neg place arg) = codes "-" ++ bracketed (nat_lt (level_of arg) 6) (text_of arg)
-  text_of (Not place arg) = codes "!" ++ bracketed (nat_lt (level_of arg) 6) (text_of arg)
-  text_of (Chain level first links) = bracketed (nat_le (level_of first) (chain_level level)) (text_of first) ++ links_text (chain_level level) links
-  text_of (Compare place rel left right) =
-      bracketed (nat_le (level_of left) 3) (text_of left) ++ spaced (rel_text rel) ++ bracketed (nat_le (level_of right) 3) (text_of right)
+  pub expression_text : Expression → List ℕ
+  expression_text (Number place value) = signed_decimal value
+  expression_text (Name place name) = name
+  expression_text (Field place name arg) = name ++ codes "(" ++ expression_text arg ++ codes ")"
+  expression_text (Call place fun arg) = fun_word fun ++ codes "(" ++ expression_text arg ++ codes ")"
+  expression_text (Towards place arg to) = codes "towards(" ++ expression_text arg ++ codes ", " ++ expression_text to ++ codes ")"
+  expression_text (Neg place arg) = codes "-" ++ bracketed_text (nat_lt (level_of arg) 6) (expression_text arg)
+  expression_text (Not place arg) = codes "!" ++ bracketed_text (nat_lt (level_of arg) 6) (expression_text arg)
+  expression_text (Chain level first links) = bracketed_text (nat_le (level_of first) (chain_level level)) (expression_text first) ++ links_text (chain_level level) links
+  expression_text (Compare place rel left right) =
+      bracketed_text (nat_le (level_of left) 3) (expression_text left) ++ spaced_text (rel_text rel) ++ bracketed_text (nat_le (level_of right) 3) (expression_text right)
 
   pub links_text : ℕ → Links → List ℕ
   links_text level no_links = []
   links_text level (link sign place arg more) =
-      spaced (sign_text sign) ++ bracketed (nat_le (level_of arg) level) (text_of arg) ++ links_text level more
+      spaced_text (sign_text sign) ++ bracketed_text (nat_le (level_of arg) level) (expression_text arg) ++ links_text level more
 
 -- LINES, at a depth of open blocks
 abbrev pub line : ℕ → List ℕ → List ℕ
 line zero text = text ++ codes "\n"
 line (suc depth) text = codes "  " ++ line depth text
 
-abbrev pub closed_line : ℕ → List ℕ → List ℕ
-closed_line depth text = line depth (text ++ codes ";")
+abbrev pub terminated_line : ℕ → List ℕ → List ℕ
+terminated_line depth text = line depth (text ++ codes ";")
 
-abbrev pub declared : List ℕ → List ℕ → Expression → List ℕ
-declared word name init = word ++ codes " " ++ name ++ codes " = " ++ text_of init
+abbrev pub declaration_text : List ℕ → List ℕ → Expression → List ℕ
+declaration_text word name init = word ++ codes " " ++ name ++ codes " = " ++ expression_text init
 
-abbrev pub headed : List ℕ → Expression → List ℕ
-headed word test = word ++ codes " (" ++ text_of test ++ codes ") {"
+abbrev pub head_text : List ℕ → Expression → List ℕ
+head_text word test = word ++ codes " (" ++ expression_text test ++ codes ") {"
 
 abbrev pub target_text : Option Expression → List ℕ
 target_text None = []
-target_text (Some target) = codes "(" ++ text_of target ++ codes ")"
+target_text (Some target) = codes "(" ++ expression_text target ++ codes ")"
 
--- an `else` that was written, and the text of its block
+-- An `else`, if one was written, and the text of its block.
 abbrev pub else_text : ℕ → Bool → List ℕ → List ℕ
 else_text depth true block = line depth (codes "} else {") ++ block
 else_text depth false block = []
 
 abbrev mutual
   pub statement_text : ℕ → Statement → List ℕ
-  statement_text depth (Var place name at init) = closed_line depth (declared (codes "var") name init)
-  statement_text depth (Val place name at init) = closed_line depth (declared (codes "val") name init)
+  statement_text depth (Var place name at init) = terminated_line depth (declaration_text (codes "var") name init)
+  statement_text depth (Val place name at init) = terminated_line depth (declaration_text (codes "val") name init)
   statement_text depth (Assign place name target how value) =
-      closed_line depth (name ++ target_text target ++ spaced (how_text how) ++ text_of value)
+      terminated_line depth (name ++ target_text target ++ spaced_text (how_text how) ++ expression_text value)
   statement_text depth (If place test first second has_else) =
-      line depth (headed (codes "if") test) ++ body_text (depth + 1) first ++ else_text depth has_else (body_text (depth + 1) second) ++ line depth (codes "}")
+      line depth (head_text (codes "if") test) ++ body_text (depth + 1) first ++ else_text depth has_else (body_text (depth + 1) second) ++ line depth (codes "}")
   statement_text depth (While place test body) =
-      line depth (headed (codes "while") test) ++ body_text (depth + 1) body ++ line depth (codes "}")
+      line depth (head_text (codes "while") test) ++ body_text (depth + 1) body ++ line depth (codes "}")
   statement_text depth (For place name at set set_at arg body) =
-      line depth (codes "for (" ++ name ++ codes " <- " ++ set_word set ++ codes "(" ++ text_of arg ++ codes ")) {") ++ body_text (depth + 1) body ++ line depth (codes "}")
+      line depth (codes "for (" ++ name ++ codes " <- " ++ set_word set ++ codes "(" ++ expression_text arg ++ codes ")) {") ++ body_text (depth + 1) body ++ line depth (codes "}")
 
   pub body_text : ℕ → Body → List ℕ
   body_text depth no_statement = []
@@ -160,21 +160,21 @@ abbrev mutual
 abbrev mutual
   pub item_text : ℕ → MainItem → List ℕ
   item_text depth (MainField place name at kind init) =
-      closed_line depth (codes "field " ++ name ++ codes " : " ++ kind_word kind ++ codes " = " ++ text_of init)
-  item_text depth (MainVar place name at init) = closed_line depth (declared (codes "var") name init)
-  item_text depth (MainAssign place name how value) = closed_line depth (name ++ spaced (how_text how) ++ text_of value)
+      terminated_line depth (codes "field " ++ name ++ codes " : " ++ kind_word kind ++ codes " = " ++ expression_text init)
+  item_text depth (MainVar place name at init) = terminated_line depth (declaration_text (codes "var") name init)
+  item_text depth (MainAssign place name how value) = terminated_line depth (name ++ spaced_text (how_text how) ++ expression_text value)
   item_text depth (MainIf place test first second has_else) =
-      line depth (headed (codes "if") test) ++ main_text (depth + 1) first ++ else_text depth has_else (main_text (depth + 1) second) ++ line depth (codes "}")
+      line depth (head_text (codes "if") test) ++ main_text (depth + 1) first ++ else_text depth has_else (main_text (depth + 1) second) ++ line depth (codes "}")
   item_text depth (MainWhile place test body) =
-      line depth (headed (codes "while") test) ++ main_text (depth + 1) body ++ line depth (codes "}")
+      line depth (head_text (codes "while") test) ++ main_text (depth + 1) body ++ line depth (codes "}")
   item_text depth (MainFor place name at over body) =
-      line depth (codes "for (" ++ name ++ codes " <- " ++ whole_word over ++ codes "(mesh)) {") ++ body_text (depth + 1) body ++ line depth (codes "}")
-  item_text depth (Print place value) = closed_line depth (codes "print " ++ text_of value)
+      line depth (codes "for (" ++ name ++ codes " <- " ++ mesh_set_word over ++ codes "(mesh)) {") ++ body_text (depth + 1) body ++ line depth (codes "}")
+  item_text depth (Print place value) = terminated_line depth (codes "print " ++ expression_text value)
 
   pub main_text : ℕ → Main → List ℕ
   main_text depth no_item = []
   main_text depth (item i more) = item_text depth i ++ main_text depth more
 
--- the canonical text of a program
+-- The canonical text of a program.
 abbrev pub canonical : Main → List ℕ
 canonical tree = main_text 0 tree

@@ -1,5 +1,5 @@
--- The tree of a program as the definitions see it: the trees of src/tree.rt node by node, with the lists inside them written
--- out, for they lead back to themselves. The language is this project's own profile after Liszt (DeVito et al., 2011).
+-- The tree of a program as the definitions see it: the trees of src/tree.rt node by node, with lists of their own, for the types
+-- are recursive. The language is this project's own profile, after Liszt (DeVito et al., Supercomputing 2011).
 use Rattle.std.specs.Prelude.{◌≡◌, ℕ, ◌+◌, Bool, Option, Some, None, List, [], ◌∷◌, map, ℤ}
 use Rattle.std.specs.Option.{option_map}
 use Rattle.liszt_base.specs.declared.answers.Place.{Place}
@@ -18,8 +18,8 @@ use Rattle.liszt_tree.specs.declared.tree.Item.{Item, fold-Item}
 use Rattle.liszt_tree.specs.declared.tree.Item.TheOpen.{Item-F}
 use Rattle.liszt_tree.specs.declared.tree.Program.{Program as RustProgram}
 
--- EXPRESSIONS. A name is its bytes. The further operands of a chain are its links, each with its operator and that one's
--- place, which for the first of them is the place of the chain.
+-- EXPRESSIONS. A name is a list of bytes. The operands of a chain after the first are its links, each with an operator and the
+-- place of the operator. The place of a chain is the place of its first link.
 mutual
   pub data Expression : Type 0 where
     Number : Place → ℤ → Expression
@@ -36,8 +36,8 @@ mutual
     no_links : Links
     link : Sign → Place → Expression → Links → Links
 
--- STATEMENTS of a comprehension's body. The first place is that of the first word, the second that of the name, and in a
--- `for` the third that of the set's word. An `if` has its test, its two blocks, and whether `else` was written.
+-- STATEMENTS of the body of a comprehension. The first place is that of the first word, the second that of the name, and the third
+-- of a `for` that of the word of the set. An `if` has a test, two blocks, and whether `else` was written.
 mutual
   pub data Statement : Type 0 where
     Var : Place → List ℕ → Place → Expression → Statement
@@ -51,7 +51,7 @@ mutual
     no_statement : Body
     statement : Statement → Body → Body
 
--- ITEMS of the main program, and the program
+-- ITEMS of the main program, and programs
 mutual
   pub data MainItem : Type 0 where
     MainField : Place → List ℕ → Place → Kind → Expression → MainItem
@@ -66,7 +66,7 @@ mutual
     no_item : Main
     item : MainItem → Main → Main
 
--- THE RUST TREE, read node by node
+-- THE RUST TREE, mapped node by node
 abbrev pub PlainLink : Type 0
 PlainLink = Sign × Place × Expression
 
@@ -125,57 +125,57 @@ item_tree i = fold-Item MainItem item_layer i
 abbrev pub program_tree : RustProgram → Main
 program_tree p = main_of (map item_tree p.items)
 
--- SAMENESS up to places: two trees are the same where they are equal once every place is put to one and the same.
+-- SAMENESS up to places: two trees are the same where they are equal after each place is replaced by one fixed place.
 abbrev pub nowhere : Place
 nowhere = record { line = 0; col = 0 }
 
 abbrev mutual
-  pub bare : Expression → Expression
-  bare (Number place value) = Number nowhere value
-  bare (Name place name) = Name nowhere name
-  bare (Field place name arg) = Field nowhere name (bare arg)
-  bare (Call place fun arg) = Call nowhere fun (bare arg)
-  bare (Towards place arg to) = Towards nowhere (bare arg) (bare to)
-  bare (Neg place arg) = Neg nowhere (bare arg)
-  bare (Not place arg) = Not nowhere (bare arg)
-  bare (Chain level first links) = Chain level (bare first) (bare_links links)
-  bare (Compare place rel left right) = Compare nowhere rel (bare left) (bare right)
+  pub expression_without_places : Expression → Expression
+  expression_without_places (Number place value) = Number nowhere value
+  expression_without_places (Name place name) = Name nowhere name
+  expression_without_places (Field place name arg) = Field nowhere name (expression_without_places arg)
+  expression_without_places (Call place fun arg) = Call nowhere fun (expression_without_places arg)
+  expression_without_places (Towards place arg to) = Towards nowhere (expression_without_places arg) (expression_without_places to)
+  expression_without_places (Neg place arg) = Neg nowhere (expression_without_places arg)
+  expression_without_places (Not place arg) = Not nowhere (expression_without_places arg)
+  expression_without_places (Chain level first links) = Chain level (expression_without_places first) (links_without_places links)
+  expression_without_places (Compare place rel left right) = Compare nowhere rel (expression_without_places left) (expression_without_places right)
 
-  pub bare_links : Links → Links
-  bare_links no_links = no_links
-  bare_links (link sign place arg more) = link sign nowhere (bare arg) (bare_links more)
-
-abbrev mutual
-  pub bare_statement : Statement → Statement
-  bare_statement (Var place name at init) = Var nowhere name nowhere (bare init)
-  bare_statement (Val place name at init) = Val nowhere name nowhere (bare init)
-  bare_statement (Assign place name target how value) = Assign nowhere name (option_map bare target) how (bare value)
-  bare_statement (If place test first second has_else) = If nowhere (bare test) (bare_body first) (bare_body second) has_else
-  bare_statement (While place test body) = While nowhere (bare test) (bare_body body)
-  bare_statement (For place name at set set_at arg body) = For nowhere name nowhere set nowhere (bare arg) (bare_body body)
-
-  pub bare_body : Body → Body
-  bare_body no_statement = no_statement
-  bare_body (statement s more) = statement (bare_statement s) (bare_body more)
+  pub links_without_places : Links → Links
+  links_without_places no_links = no_links
+  links_without_places (link sign place arg more) = link sign nowhere (expression_without_places arg) (links_without_places more)
 
 abbrev mutual
-  pub bare_item : MainItem → MainItem
-  bare_item (MainField place name at kind init) = MainField nowhere name nowhere kind (bare init)
-  bare_item (MainVar place name at init) = MainVar nowhere name nowhere (bare init)
-  bare_item (MainAssign place name how value) = MainAssign nowhere name how (bare value)
-  bare_item (MainIf place test first second has_else) = MainIf nowhere (bare test) (bare_main first) (bare_main second) has_else
-  bare_item (MainWhile place test body) = MainWhile nowhere (bare test) (bare_main body)
-  bare_item (MainFor place name at over body) = MainFor nowhere name nowhere over (bare_body body)
-  bare_item (Print place value) = Print nowhere (bare value)
+  pub statement_without_places : Statement → Statement
+  statement_without_places (Var place name at init) = Var nowhere name nowhere (expression_without_places init)
+  statement_without_places (Val place name at init) = Val nowhere name nowhere (expression_without_places init)
+  statement_without_places (Assign place name target how value) = Assign nowhere name (option_map expression_without_places target) how (expression_without_places value)
+  statement_without_places (If place test first second has_else) = If nowhere (expression_without_places test) (body_without_places first) (body_without_places second) has_else
+  statement_without_places (While place test body) = While nowhere (expression_without_places test) (body_without_places body)
+  statement_without_places (For place name at set set_at arg body) = For nowhere name nowhere set nowhere (expression_without_places arg) (body_without_places body)
 
-  pub bare_main : Main → Main
-  bare_main no_item = no_item
-  bare_main (item i more) = item (bare_item i) (bare_main more)
+  pub body_without_places : Body → Body
+  body_without_places no_statement = no_statement
+  body_without_places (statement s more) = statement (statement_without_places s) (body_without_places more)
+
+abbrev mutual
+  pub item_without_places : MainItem → MainItem
+  item_without_places (MainField place name at kind init) = MainField nowhere name nowhere kind (expression_without_places init)
+  item_without_places (MainVar place name at init) = MainVar nowhere name nowhere (expression_without_places init)
+  item_without_places (MainAssign place name how value) = MainAssign nowhere name how (expression_without_places value)
+  item_without_places (MainIf place test first second has_else) = MainIf nowhere (expression_without_places test) (main_without_places first) (main_without_places second) has_else
+  item_without_places (MainWhile place test body) = MainWhile nowhere (expression_without_places test) (main_without_places body)
+  item_without_places (MainFor place name at over body) = MainFor nowhere name nowhere over (body_without_places body)
+  item_without_places (Print place value) = Print nowhere (expression_without_places value)
+
+  pub main_without_places : Main → Main
+  main_without_places no_item = no_item
+  main_without_places (item i more) = item (item_without_places i) (main_without_places more)
 
 abbrev pub Same : Main → Main → Type 0
-Same tree other = bare_main tree ≡ bare_main other
+Same tree other = main_without_places tree ≡ main_without_places other
 
--- NODES: an expression, a statement and an item count one each; a chain is one node and each of its operands its own.
+-- NODES: each expression, statement and item is one node; a chain is one node in addition to its operands.
 abbrev mutual
   pub expression_nodes : Expression → ℕ
   expression_nodes (Number place value) = 1

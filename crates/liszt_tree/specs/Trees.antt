@@ -1,4 +1,4 @@
--- The trees of the worked cases. Their places are all one. This project's own.
+-- The trees of the worked cases, without places. This project's own.
 use Rattle.std.specs.Prelude.{ℕ, true, false, Some, None, List, codes, pos}
 use Rattle.liszt_base.specs.declared.elements.Kind.TheVariants.{Vertex, Edge, Face}
 use Rattle.liszt_base.specs.declared.elements.Op.TheVariants.{Add, Mul, And as AndBits, Or as OrBits, Xor, Min, Max}
@@ -21,13 +21,13 @@ name text = Name nowhere text
 abbrev pub number : ℕ → Expression
 number n = Number nowhere (pos n)
 
-abbrev pub one_more : Fun → Statement
-one_more fun = Assign nowhere (codes "Deg") (Some (Call nowhere fun (name (codes "e")))) (Fold Add) (number 1)
+abbrev pub adds_one_to : Fun → Statement
+adds_one_to fun = Assign nowhere (codes "Deg") (Some (Call nowhere fun (name (codes "e")))) (Fold Add) (number 1)
 
 abbrev pub degrees : Main
 degrees =
     item (MainField nowhere (codes "Deg") nowhere Vertex (number 0))
-    (item (MainFor nowhere (codes "e") nowhere Edge (statement (one_more Head) (statement (one_more Tail) no_statement))) no_item)
+    (item (MainFor nowhere (codes "e") nowhere Edge (statement (adds_one_to Head) (statement (adds_one_to Tail) no_statement))) no_item)
 
 abbrev pub is_m : ℕ → Expression
 is_m n = Compare nowhere Equal (name (codes "m")) (number n)
@@ -50,24 +50,24 @@ abbrev pub plain_chain : Expression
 plain_chain =
     Chain level.Sum (name (codes "a")) (link sign.Minus nowhere (name (codes "b")) (link sign.Minus nowhere (Towards nowhere (name (codes "e")) (name (codes "v"))) no_links))
 
--- a body with every statement and every assignment
+-- A body with every statement and every assignment.
 abbrev pub sets_n : How → Expression → Statement
 sets_n how value = Assign nowhere (codes "n") None how value
 
-abbrev pub one : Statement → Body
-one s = statement s no_statement
+abbrev pub single_statement : Statement → Body
+single_statement s = statement s no_statement
 
 abbrev pub every_statement : Body
 every_statement =
     statement (Var nowhere (codes "n") nowhere (number 1))
     (statement (Val nowhere (codes "c") nowhere (Call nowhere Inside (name (codes "f"))))
-    (statement (If nowhere (Call nowhere Valid (name (codes "c"))) (one (Assign nowhere (codes "F") (Some (name (codes "c"))) Less (name (codes "n")))) no_statement false)
-    (statement (While nowhere (Compare nowhere Below (name (codes "n")) (number 3)) (one (sets_n (Fold Mul) (number 2))))
-    (statement (For nowhere (codes "e") nowhere EdgesCcw nowhere (name (codes "f")) (one (sets_n (Fold Max) (Call nowhere Id (Call nowhere Tail (name (codes "e")))))))
+    (statement (If nowhere (Call nowhere Valid (name (codes "c"))) (single_statement (Assign nowhere (codes "F") (Some (name (codes "c"))) Less (name (codes "n")))) no_statement false)
+    (statement (While nowhere (Compare nowhere Below (name (codes "n")) (number 3)) (single_statement (sets_n (Fold Mul) (number 2))))
+    (statement (For nowhere (codes "e") nowhere EdgesCcw nowhere (name (codes "f")) (single_statement (sets_n (Fold Max) (Call nowhere Id (Call nowhere Tail (name (codes "e")))))))
     (statement (sets_n (Fold AndBits) (number 7))
     (statement (sets_n (Fold OrBits) (number 1))
     (statement (sets_n (Fold Xor) (number 3))
-    (one (sets_n Set (number 0))))))))))
+    (single_statement (sets_n Set (number 0))))))))))
 
 abbrev pub over_faces : Main
 over_faces =

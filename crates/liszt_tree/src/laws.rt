@@ -1,12 +1,13 @@
-//! Laws of the definitions, each the contract of a function that does nothing.
+//! Laws of the definitions, each the contract of a function with an empty body.
 
 ghost use Rattle.std.specs.Prelude.{◌≡◌};
 ghost use Rattle.liszt_tree.specs.Canonical.{canonical};
-ghost use Rattle.liszt_tree.specs.Tree.{Main, Same, bare_main};
+ghost use Rattle.liszt_tree.specs.Tree.{Main, Same, main_without_places};
 
-/// Places don't show in the canonical text: it is that of the tree without places, and trees that are the same up to places have
-/// one text.
+/// The canonical text does not depend on places: it is that of the tree without places, and trees that are the same up to places
+/// have the same text.
 pub fn places_are_not_shown()
-    ensures bare { (tree : Main) → canonical (bare_main tree) ≡ canonical tree }
+    ensures without_places { (tree : Main)
+        → canonical (main_without_places tree) ≡ canonical tree }
     ensures same { (tree other : Main) → Same tree other → canonical tree ≡ canonical other }
 {}

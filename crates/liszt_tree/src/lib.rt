@@ -1,9 +1,9 @@
-//! The tree of a program, and the definitions of the plain tree that it stands for and of its canonical text.
+//! The tree of a program, and the definitions of the plain tree that it denotes and of its canonical text.
 #![tactic(auto)]
 
 mod cases;
 pub mod laws;
-mod mapped;
+mod nodes;
 mod print;
 mod print_expression;
 mod tree;

@@ -1,4 +1,5 @@
-//! What nodes of the tree are in the definitions: each function makes one node of its parts, and its contract says what that is.
+//! The nodes of the Rust tree as nodes of the definitions: each function makes one node of its parts, and its contract says which
+//! node of the definitions that is.
 #![allow(dead_code)]
 
 ghost use Rattle.std.specs.Prelude.{◌≡◌, map};
@@ -17,7 +18,7 @@ fn number(place: Place, value: i64) -> Expr
     Expr::Number { place, value }
 }
 
-/// A field at an element.
+/// A field with its argument.
 fn field_value(place: Place, name: Name, arg: Boxed<Expr>) -> Expr
     ensures { expression result ≡ Tree.Field place name (expression arg) }
 {
@@ -33,7 +34,8 @@ fn towards(place: Place, arg: Boxed<Expr>, to: Boxed<Expr>) -> Expr
 
 /// A chain, with its links in their order.
 fn chain(level: Level, first: Boxed<Expr>, rest: LinkList) -> Expr
-    ensures { expression result ≡ Tree.Chain level (expression first) (links_of (map (λ l. (l.op, l.place, expression l.arg)) rest)) }
+    ensures { expression result ≡ Tree.Chain level (expression first)
+        (links_of (map (λ l. (l.op, l.place, expression l.arg)) rest)) }
 {
     Expr::Chain { level, first, rest }
 }
@@ -50,9 +52,10 @@ fn comparison(place: Place, rel: Rel, left: Boxed<Expr>, right: Boxed<Expr>) -> 
     }
 }
 
-/// An assignment in a body, to a field at its target or to a name.
+/// An assignment in a body, to a field with its argument or to a name.
 fn assignment(place: Place, name: Name, target: Option<Expr>, how: How, value: Expr) -> Stmt
-    ensures { statement_tree result ≡ Tree.Assign place name (option_map expression target) how (expression value) }
+    ensures { statement_tree result ≡ Tree.Assign place name (option_map expression target) how
+        (expression value) }
 {
     Stmt::Assign {
         place,
@@ -65,7 +68,8 @@ fn assignment(place: Place, name: Name, target: Option<Expr>, how: How, value: E
 
 /// An `if` in a body.
 fn branch(place: Place, test: Expr, yes: StmtList, no: StmtList, has_else: bool) -> Stmt
-    ensures { statement_tree result ≡ Tree.If place (expression test) (body_of (map statement_tree yes)) (body_of (map statement_tree no)) has_else }
+    ensures { statement_tree result ≡ Tree.If place (expression test)
+        (body_of (map statement_tree yes)) (body_of (map statement_tree no)) has_else }
 {
     Stmt::If {
         place,
@@ -86,7 +90,8 @@ fn set_loop(
     arg: Expr,
     body: StmtList,
 ) -> Stmt
-    ensures { statement_tree result ≡ Tree.For place name at set set_at (expression arg) (body_of (map statement_tree body)) }
+    ensures { statement_tree result ≡ Tree.For place name at set set_at (expression arg)
+        (body_of (map statement_tree body)) }
 {
     Stmt::For {
         place,
@@ -101,7 +106,8 @@ fn set_loop(
 
 /// An `if` of the main program.
 fn main_branch(place: Place, test: Expr, yes: ItemList, no: ItemList, has_else: bool) -> Item
-    ensures { item_tree result ≡ Tree.MainIf place (expression test) (main_of (map item_tree yes)) (main_of (map item_tree no)) has_else }
+    ensures { item_tree result ≡ Tree.MainIf place (expression test) (main_of (map item_tree yes))
+        (main_of (map item_tree no)) has_else }
 {
     Item::If {
         place,
@@ -114,7 +120,8 @@ fn main_branch(place: Place, test: Expr, yes: ItemList, no: ItemList, has_else: 
 
 /// A comprehension.
 fn comprehension(place: Place, name: Name, at: Place, over: Kind, body: StmtList) -> Item
-    ensures { item_tree result ≡ Tree.MainFor place name at over (body_of (map statement_tree body)) }
+    ensures { item_tree result ≡ Tree.MainFor place name at over
+        (body_of (map statement_tree body)) }
 {
     Item::For {
         place,

@@ -3,17 +3,17 @@
 ghost use Rattle.std.specs.Prelude.{◌≡◌, ◌+◌, ◌++◌, codes, map, IfOk, OnOk};
 ghost use Rattle.std.specs.List.{repeat};
 ghost use Rattle.std.specs.Option.{option_map};
-ghost use Rattle.liszt_tree.specs.Canonical.{body_text, canonical, closed_line, declared, else_text, headed, item_text, line, main_text, spaced, statement_text, target_text, text_of};
+ghost use Rattle.liszt_tree.specs.Canonical.{body_text, canonical, terminated_line, declaration_text, else_text, head_text, item_text, line, main_text, spaced_text, statement_text, target_text, expression_text};
 ghost use Rattle.liszt_tree.specs.Canonical as Text;
 ghost use Rattle.liszt_tree.specs.Tree.{body_of, expression, item_tree, main_of, program_tree, statement_tree};
 
-use crate::print_expression::{print_expression, print_spaced};
+use crate::print_expression::{print_expression, print_spaced_text};
 use crate::tree::{Expr, How, Item, Name, Program, Stmt};
-use crate::words::{how_text, kind_word, set_word, whole_word};
+use crate::words::{how_text, kind_word, mesh_set_word, set_word};
 use liszt_base::{ByteList, Kind, NoMemory, SetName};
 use std::alloc::Global;
 
-/// Adds the blanks before a line, two for each open block.
+/// Appends the blanks at the start of a line, two for each open block.
 fn print_blanks(out: &mut ByteList, depth: usize) -> Result<(), NoMemory>
     ensures { OnOk result (out.new ≡ out.old ++ repeat depth (codes "  ")) }
 {
@@ -23,14 +23,14 @@ fn print_blanks(out: &mut ByteList, depth: usize) -> Result<(), NoMemory>
     Ok(())
 }
 
-/// The depth inside a block. A line so deep that its depth is no number has no room in memory.
-fn deeper(depth: usize) -> Result<usize, NoMemory>
+/// The depth inside a block. A depth that is out of range is out of memory, which has no room for such a line.
+fn inner_depth(depth: usize) -> Result<usize, NoMemory>
     ensures { IfOk result (λ inner. inner ≡ depth + 1) }
 {
     depth.checked_add(1).ok_or(NoMemory)
 }
 
-/// Adds a line of one piece.
+/// Appends a line of one piece.
 fn print_line(out: &mut ByteList, depth: usize, text: &[u8]) -> Result<(), NoMemory>
     ensures { OnOk result (out.new ≡ out.old ++ line depth text.now) }
 {
@@ -39,24 +39,26 @@ fn print_line(out: &mut ByteList, depth: usize, text: &[u8]) -> Result<(), NoMem
     out.extend(b"\n")
 }
 
-/// Adds the first value of what a line declares, to the end of that line.
+/// Appends the initial expression of a declaration and the end of its line.
 fn print_initial(out: &mut ByteList, init: &Expr) -> Result<(), NoMemory>
-    ensures { OnOk result (out.new ≡ out.old ++ (codes " = " ++ text_of (expression init.now) ++ codes ";\n")) }
+    ensures { OnOk result (out.new ≡ out.old ++ (codes " = "
+        ++ expression_text (expression init.now) ++ codes ";\n")) }
 {
     out.extend(b" = ")?;
     print_expression(out, init)?;
     out.extend(b";\n")
 }
 
-/// Adds the line of a `var` or a `val`.
-fn print_declared(
+/// Appends the line of a `var` or a `val`.
+fn print_declaration(
     out: &mut ByteList,
     depth: usize,
     word: &[u8],
     name: &Name,
     init: &Expr,
 ) -> Result<(), NoMemory>
-    ensures { OnOk result (out.new ≡ out.old ++ closed_line depth (declared word.now name.now (expression init.now))) }
+    ensures { OnOk result (out.new ≡ out.old ++ terminated_line depth
+        (declaration_text word.now name.now (expression init.now))) }
 {
     print_blanks(out, depth)?;
     out.extend(word)?;
@@ -65,7 +67,7 @@ fn print_declared(
     print_initial(out, init)
 }
 
-/// Adds the line of a field.
+/// Appends the line of a field.
 fn print_field(
     out: &mut ByteList,
     depth: usize,
@@ -74,7 +76,8 @@ fn print_field(
     init: &Expr,
 ) -> Result<(), NoMemory>
     ensures { OnOk result (out.new ≡ out.old
-        ++ closed_line depth (codes "field " ++ name.now ++ codes " : " ++ Text.kind_word kind ++ codes " = " ++ text_of (expression init.now))) }
+        ++ terminated_line depth (codes "field " ++ name.now ++ codes " : " ++ Text.kind_word kind
+        ++ codes " = " ++ expression_text (expression init.now))) }
 {
     print_blanks(out, depth)?;
     out.extend(b"field ")?;
@@ -84,7 +87,7 @@ fn print_field(
     print_initial(out, init)
 }
 
-/// Adds the target of an assignment to a field.
+/// Appends the target of an assignment to a field.
 fn print_target(out: &mut ByteList, target: &Option<Expr>) -> Result<(), NoMemory>
     ensures { OnOk result (out.new ≡ out.old ++ target_text (option_map expression target.now)) }
 {
@@ -98,16 +101,17 @@ fn print_target(out: &mut ByteList, target: &Option<Expr>) -> Result<(), NoMemor
     }
 }
 
-/// Adds what stands behind the name or the target of an assignment, to the end of its line.
-fn print_assigned(out: &mut ByteList, how: How, value: &Expr) -> Result<(), NoMemory>
-    ensures { OnOk result (out.new ≡ out.old ++ spaced (Text.how_text how) ++ text_of (expression value.now) ++ codes ";\n") }
+/// Appends the operator and the value of an assignment and the end of its line.
+fn print_assignment_end(out: &mut ByteList, how: How, value: &Expr) -> Result<(), NoMemory>
+    ensures { OnOk result (out.new ≡ out.old ++ spaced_text (Text.how_text how)
+        ++ expression_text (expression value.now) ++ codes ";\n") }
 {
-    print_spaced(out, how_text(how))?;
+    print_spaced_text(out, how_text(how))?;
     print_expression(out, value)?;
     out.extend(b";\n")
 }
 
-/// Adds the line of an assignment.
+/// Appends the line of an assignment.
 fn print_assignment(
     out: &mut ByteList,
     depth: usize,
@@ -117,17 +121,19 @@ fn print_assignment(
     value: &Expr,
 ) -> Result<(), NoMemory>
     ensures { OnOk result (out.new ≡ out.old
-        ++ closed_line depth (name.now ++ target_text (option_map expression target.now) ++ spaced (Text.how_text how) ++ text_of (expression value.now))) }
+        ++ terminated_line depth (name.now ++ target_text (option_map expression target.now)
+        ++ spaced_text (Text.how_text how) ++ expression_text (expression value.now))) }
 {
     print_blanks(out, depth)?;
     out.extend(name.as_slice())?;
     print_target(out, target)?;
-    print_assigned(out, how, value)
+    print_assignment_end(out, how, value)
 }
 
-/// Adds the line of a `print`.
+/// Appends the line of a `print`.
 fn print_output(out: &mut ByteList, depth: usize, value: &Expr) -> Result<(), NoMemory>
-    ensures { OnOk result (out.new ≡ out.old ++ closed_line depth (codes "print " ++ text_of (expression value.now))) }
+    ensures { OnOk result (out.new ≡ out.old ++ terminated_line depth
+        (codes "print " ++ expression_text (expression value.now))) }
 {
     print_blanks(out, depth)?;
     out.extend(b"print ")?;
@@ -135,9 +141,10 @@ fn print_output(out: &mut ByteList, depth: usize, value: &Expr) -> Result<(), No
     out.extend(b";\n")
 }
 
-/// Adds the line that opens the block of an `if` or a `while`.
+/// Appends the line that opens the block of an `if` or a `while`.
 fn print_head(out: &mut ByteList, depth: usize, word: &[u8], test: &Expr) -> Result<(), NoMemory>
-    ensures { OnOk result (out.new ≡ out.old ++ line depth (headed word.now (expression test.now))) }
+    ensures { OnOk result (out.new ≡ out.old ++ line depth
+        (head_text word.now (expression test.now))) }
 {
     print_blanks(out, depth)?;
     out.extend(word)?;
@@ -146,9 +153,10 @@ fn print_head(out: &mut ByteList, depth: usize, word: &[u8], test: &Expr) -> Res
     out.extend(b") {\n")
 }
 
-/// Adds the begin of the line of a `for`, up to the set.
+/// Appends the start of the line of a `for`, up to the set.
 fn print_for(out: &mut ByteList, depth: usize, name: &Name) -> Result<(), NoMemory>
-    ensures { OnOk result (out.new ≡ out.old ++ (repeat depth (codes "  ") ++ (codes "for (" ++ name.now ++ codes " <- "))) }
+    ensures { OnOk result (out.new ≡ out.old ++ (repeat depth (codes "  ")
+        ++ (codes "for (" ++ name.now ++ codes " <- "))) }
 {
     print_blanks(out, depth)?;
     out.extend(b"for (")?;
@@ -156,7 +164,7 @@ fn print_for(out: &mut ByteList, depth: usize, name: &Name) -> Result<(), NoMemo
     out.extend(b" <- ")
 }
 
-/// Adds the line that opens the block of a loop over a set of an element.
+/// Appends the line that opens the block of a loop over a set of an element.
 fn print_set_head(
     out: &mut ByteList,
     depth: usize,
@@ -165,7 +173,8 @@ fn print_set_head(
     arg: &Expr,
 ) -> Result<(), NoMemory>
     ensures { OnOk result (out.new ≡ out.old
-        ++ line depth (codes "for (" ++ name.now ++ codes " <- " ++ Text.set_word set ++ codes "(" ++ text_of (expression arg.now) ++ codes ")) {")) }
+        ++ line depth (codes "for (" ++ name.now ++ codes " <- " ++ Text.set_word set ++ codes "("
+        ++ expression_text (expression arg.now) ++ codes ")) {")) }
 {
     print_for(out, depth, name)?;
     out.extend(set_word(set))?;
@@ -174,28 +183,31 @@ fn print_set_head(
     out.extend(b")) {\n")
 }
 
-/// Adds the line that opens a comprehension.
+/// Appends the line that opens a comprehension.
 fn print_mesh_head(
     out: &mut ByteList,
     depth: usize,
     name: &Name,
     over: Kind,
 ) -> Result<(), NoMemory>
-    ensures { OnOk result (out.new ≡ out.old ++ line depth (codes "for (" ++ name.now ++ codes " <- " ++ Text.whole_word over ++ codes "(mesh)) {")) }
+    ensures { OnOk result (out.new ≡ out.old ++ line depth
+        (codes "for (" ++ name.now ++ codes " <- " ++ Text.mesh_set_word over
+        ++ codes "(mesh)) {")) }
 {
     print_for(out, depth, name)?;
-    out.extend(whole_word(over))?;
+    out.extend(mesh_set_word(over))?;
     out.extend(b"(mesh)) {\n")
 }
 
-/// Adds a statement of a body.
+/// Appends a statement of a body.
 #[cycle(statements)]
 fn print_statement(out: &mut ByteList, depth: usize, statement: &Stmt) -> Result<(), NoMemory>
-    ensures { OnOk result (out.new ≡ out.old ++ statement_text depth (statement_tree statement.now)) }
+    ensures { OnOk result (out.new ≡ out.old ++ statement_text depth
+        (statement_tree statement.now)) }
 {
     match statement {
-        Stmt::Var { name, init, .. } => print_declared(out, depth, b"var", name, init),
-        Stmt::Val { name, init, .. } => print_declared(out, depth, b"val", name, init),
+        Stmt::Var { name, init, .. } => print_declaration(out, depth, b"var", name, init),
+        Stmt::Val { name, init, .. } => print_declaration(out, depth, b"val", name, init),
         Stmt::Assign {
             name,
             target,
@@ -222,24 +234,26 @@ fn print_statement(out: &mut ByteList, depth: usize, statement: &Stmt) -> Result
             arg,
             body,
             ..
-        } => print_loop(out, depth, body.as_slice(), name, *set, arg),
+        } => print_set_loop(out, depth, body.as_slice(), name, *set, arg),
     }
 }
 
-/// Adds a `while`. Its body comes first, for the recursion goes down that.
+/// Appends a `while`. The body precedes the test, for the recursion descends on it.
 #[cycle(statements)]
 fn print_while(out: &mut ByteList, depth: usize, body: &[Stmt], test: &Expr) -> Result<(), NoMemory>
     ensures { OnOk result (out.new ≡ out.old
-        ++ (line depth (headed (codes "while") (expression test.now)) ++ body_text (depth + 1) (body_of (map statement_tree body.now)) ++ line depth (codes "}"))) }
+        ++ (line depth (head_text (codes "while") (expression test.now))
+        ++ body_text (depth + 1) (body_of (map statement_tree body.now))
+        ++ line depth (codes "}"))) }
 {
     print_head(out, depth, b"while", test)?;
     print_block(out, depth, body)?;
     print_line(out, depth, b"}")
 }
 
-/// Adds a loop over a set of an element. Its body comes first, too.
+/// Appends a loop over a set of an element. The body precedes the other parts, for the recursion descends on it.
 #[cycle(statements)]
-fn print_loop(
+fn print_set_loop(
     out: &mut ByteList,
     depth: usize,
     body: &[Stmt],
@@ -248,18 +262,21 @@ fn print_loop(
     arg: &Expr,
 ) -> Result<(), NoMemory>
     ensures { OnOk result (out.new ≡ out.old
-        ++ (line depth (codes "for (" ++ name.now ++ codes " <- " ++ Text.set_word set ++ codes "(" ++ text_of (expression arg.now) ++ codes ")) {")
-        ++ body_text (depth + 1) (body_of (map statement_tree body.now)) ++ line depth (codes "}"))) }
+        ++ (line depth (codes "for (" ++ name.now ++ codes " <- " ++ Text.set_word set ++ codes "("
+        ++ expression_text (expression arg.now) ++ codes ")) {")
+        ++ body_text (depth + 1) (body_of (map statement_tree body.now))
+        ++ line depth (codes "}"))) }
 {
     print_set_head(out, depth, name, set, arg)?;
     print_block(out, depth, body)?;
     print_line(out, depth, b"}")
 }
 
-/// Adds the statements of a block.
+/// Appends the statements of a block.
 #[cycle(statements)]
 fn print_body(out: &mut ByteList, depth: usize, body: &[Stmt]) -> Result<(), NoMemory>
-    ensures { OnOk result (out.new ≡ out.old ++ body_text depth (body_of (map statement_tree body.now))) }
+    ensures { OnOk result (out.new ≡ out.old ++ body_text depth
+        (body_of (map statement_tree body.now))) }
 {
     for statement in body {
         print_statement(out, depth, statement)?;
@@ -267,15 +284,16 @@ fn print_body(out: &mut ByteList, depth: usize, body: &[Stmt]) -> Result<(), NoM
     Ok(())
 }
 
-/// Adds the statements of a block that the line before opens.
+/// Appends the statements of a block, one level deeper.
 #[cycle(statements)]
 fn print_block(out: &mut ByteList, depth: usize, body: &[Stmt]) -> Result<(), NoMemory>
-    ensures { OnOk result (out.new ≡ out.old ++ body_text (depth + 1) (body_of (map statement_tree body.now))) }
+    ensures { OnOk result (out.new ≡ out.old ++ body_text (depth + 1)
+        (body_of (map statement_tree body.now))) }
 {
-    print_body(out, deeper(depth)?, body)
+    print_body(out, inner_depth(depth)?, body)
 }
 
-/// Adds the `else` of an `if`, where one was written, and its block.
+/// Appends the `else` of an `if`, where one was written, and its block.
 #[cycle(statements)]
 fn print_else(
     out: &mut ByteList,
@@ -283,7 +301,8 @@ fn print_else(
     has_else: bool,
     body: &[Stmt],
 ) -> Result<(), NoMemory>
-    ensures { OnOk result (out.new ≡ out.old ++ else_text depth has_else (body_text (depth + 1) (body_of (map statement_tree body.now)))) }
+    ensures { OnOk result (out.new ≡ out.old ++ else_text depth has_else
+        (body_text (depth + 1) (body_of (map statement_tree body.now)))) }
 {
     if !has_else {
         return Ok(());
@@ -292,7 +311,7 @@ fn print_else(
     print_block(out, depth, body)
 }
 
-/// Adds a comprehension.
+/// Appends a comprehension.
 fn print_comprehension(
     out: &mut ByteList,
     depth: usize,
@@ -301,15 +320,17 @@ fn print_comprehension(
     body: &[Stmt],
 ) -> Result<(), NoMemory>
     ensures { OnOk result (out.new ≡ out.old
-        ++ (line depth (codes "for (" ++ name.now ++ codes " <- " ++ Text.whole_word over ++ codes "(mesh)) {")
-        ++ body_text (depth + 1) (body_of (map statement_tree body.now)) ++ line depth (codes "}"))) }
+        ++ (line depth (codes "for (" ++ name.now ++ codes " <- " ++ Text.mesh_set_word over
+        ++ codes "(mesh)) {")
+        ++ body_text (depth + 1) (body_of (map statement_tree body.now))
+        ++ line depth (codes "}"))) }
 {
     print_mesh_head(out, depth, name, over)?;
     print_block(out, depth, body)?;
     print_line(out, depth, b"}")
 }
 
-/// Adds an item of the main program.
+/// Appends an item of the main program.
 #[cycle(items)]
 fn print_item(out: &mut ByteList, depth: usize, item: &Item) -> Result<(), NoMemory>
     ensures { OnOk result (out.new ≡ out.old ++ item_text depth (item_tree item.now)) }
@@ -321,7 +342,7 @@ fn print_item(out: &mut ByteList, depth: usize, item: &Item) -> Result<(), NoMem
             init,
             ..
         } => print_field(out, depth, name, *kind, init),
-        Item::Var { name, init, .. } => print_declared(out, depth, b"var", name, init),
+        Item::Var { name, init, .. } => print_declaration(out, depth, b"var", name, init),
         Item::Assign {
             name,
             how,
@@ -351,7 +372,7 @@ fn print_item(out: &mut ByteList, depth: usize, item: &Item) -> Result<(), NoMem
     }
 }
 
-/// Adds a `while` of the main program. Its body comes first, too.
+/// Appends a `while` of the main program. The body precedes the test, for the recursion descends on it.
 #[cycle(items)]
 fn print_main_while(
     out: &mut ByteList,
@@ -360,17 +381,19 @@ fn print_main_while(
     test: &Expr,
 ) -> Result<(), NoMemory>
     ensures { OnOk result (out.new ≡ out.old
-        ++ (line depth (headed (codes "while") (expression test.now)) ++ main_text (depth + 1) (main_of (map item_tree body.now)) ++ line depth (codes "}"))) }
+        ++ (line depth (head_text (codes "while") (expression test.now))
+        ++ main_text (depth + 1) (main_of (map item_tree body.now)) ++ line depth (codes "}"))) }
 {
     print_head(out, depth, b"while", test)?;
     print_main_block(out, depth, body)?;
     print_line(out, depth, b"}")
 }
 
-/// Adds the items of the main program, or of a block in it.
+/// Appends the items of the main program, or of a block in it.
 #[cycle(items)]
 fn print_main(out: &mut ByteList, depth: usize, items: &[Item]) -> Result<(), NoMemory>
-    ensures { OnOk result (out.new ≡ out.old ++ main_text depth (main_of (map item_tree items.now))) }
+    ensures { OnOk result (out.new ≡ out.old ++ main_text depth
+        (main_of (map item_tree items.now))) }
 {
     for item in items {
         print_item(out, depth, item)?;
@@ -378,15 +401,16 @@ fn print_main(out: &mut ByteList, depth: usize, items: &[Item]) -> Result<(), No
     Ok(())
 }
 
-/// Adds the items of a block that the line before opens.
+/// Appends the items of a block, one level deeper.
 #[cycle(items)]
 fn print_main_block(out: &mut ByteList, depth: usize, items: &[Item]) -> Result<(), NoMemory>
-    ensures { OnOk result (out.new ≡ out.old ++ main_text (depth + 1) (main_of (map item_tree items.now))) }
+    ensures { OnOk result (out.new ≡ out.old ++ main_text (depth + 1)
+        (main_of (map item_tree items.now))) }
 {
-    print_main(out, deeper(depth)?, items)
+    print_main(out, inner_depth(depth)?, items)
 }
 
-/// Adds the `else` of an `if`, where one was written, and its block.
+/// Appends the `else` of an `if`, where one was written, and its block.
 #[cycle(items)]
 fn print_main_else(
     out: &mut ByteList,
@@ -394,7 +418,8 @@ fn print_main_else(
     has_else: bool,
     items: &[Item],
 ) -> Result<(), NoMemory>
-    ensures { OnOk result (out.new ≡ out.old ++ else_text depth has_else (main_text (depth + 1) (main_of (map item_tree items.now)))) }
+    ensures { OnOk result (out.new ≡ out.old ++ else_text depth has_else
+        (main_text (depth + 1) (main_of (map item_tree items.now)))) }
 {
     if !has_else {
         return Ok(());
@@ -403,8 +428,8 @@ fn print_main_else(
     print_main_block(out, depth, items)
 }
 
-/// The canonical text of a program: one statement a line, two blanks for each open block, brackets only where the levels of
-/// operators ask for them.
+/// The canonical text of a program: one statement on each line, two blanks for each open block, brackets only where the levels of
+/// operators require them.
 pub fn print_tree(alloc: Global, p: &Program) -> Result<ByteList, NoMemory>
     ensures { IfOk result (λ text. text ≡ canonical (program_tree p.now)) }
 {

@@ -3,7 +3,7 @@
 ghost use Rattle.std.specs.Prelude.{◌≡◌, ◌++◌, codes, map, nat_lt, OnOk};
 ghost use Rattle.std.specs.Fmt.{signed_decimal};
 ghost use Rattle.liszt_tree.specs.Canonical as Text;
-ghost use Rattle.liszt_tree.specs.Canonical.{bracketed, text_of, links_text};
+ghost use Rattle.liszt_tree.specs.Canonical.{bracketed_text, expression_text, links_text};
 ghost use Rattle.liszt_tree.specs.Tree.{expression, links_of};
 
 use crate::tree::{Expr, Link};
@@ -29,7 +29,7 @@ fn level_of(e: &Expr) -> u8
     }
 }
 
-/// Adds a number, in decimal digits, with its sign.
+/// Appends a number, in decimal digits, with its sign.
 fn print_number(out: &mut ByteList, value: i64) -> Result<(), NoMemory>
     ensures { OnOk result (out.new ≡ out.old ++ signed_decimal value) }
 {
@@ -37,19 +37,19 @@ fn print_number(out: &mut ByteList, value: i64) -> Result<(), NoMemory>
     out.extend(buffer.format(value).as_bytes())
 }
 
-/// Adds a sign between two blanks.
-pub fn print_spaced(out: &mut ByteList, text: &[u8]) -> Result<(), NoMemory>
-    ensures { OnOk result (out.new ≡ out.old ++ Text.spaced text.now) }
+/// Appends a text between two blanks.
+pub fn print_spaced_text(out: &mut ByteList, text: &[u8]) -> Result<(), NoMemory>
+    ensures { OnOk result (out.new ≡ out.old ++ Text.spaced_text text.now) }
 {
     out.extend(b" ")?;
     out.extend(text)?;
     out.extend(b" ")
 }
 
-/// Adds an expression.
+/// Appends an expression.
 #[cycle(print)]
 pub fn print_expression(out: &mut ByteList, e: &Expr) -> Result<(), NoMemory>
-    ensures { OnOk result (out.new ≡ out.old ++ text_of (expression e.now)) }
+    ensures { OnOk result (out.new ≡ out.old ++ expression_text (expression e.now)) }
 {
     match e {
         Expr::Number { value, .. } => print_number(out, *value),
@@ -63,8 +63,8 @@ pub fn print_expression(out: &mut ByteList, e: &Expr) -> Result<(), NoMemory>
             print_expression(out, to.get())?;
             out.extend(b")")
         }
-        Expr::Neg { arg, .. } => print_prefixed(out, b"-", arg.get()),
-        Expr::Not { arg, .. } => print_prefixed(out, b"!", arg.get()),
+        Expr::Neg { arg, .. } => print_prefix_expression(out, b"-", arg.get()),
+        Expr::Not { arg, .. } => print_prefix_expression(out, b"!", arg.get()),
         Expr::Chain { level, first, rest } => {
             let (level, first) = (chain_level(*level), first.get());
             print_operand(out, level_of(first) <= level, first)?;
@@ -78,34 +78,38 @@ pub fn print_expression(out: &mut ByteList, e: &Expr) -> Result<(), NoMemory>
         } => {
             let (left, right) = (left.get(), right.get());
             print_operand(out, level_of(left) <= COMPARISON, left)?;
-            print_spaced(out, rel_text(*rel))?;
+            print_spaced_text(out, rel_text(*rel))?;
             print_operand(out, level_of(right) <= COMPARISON, right)
         }
     }
 }
 
-/// Adds what is applied, and its operand in brackets.
+/// Appends a word and an argument in brackets.
 #[cycle(print)]
 fn print_call(out: &mut ByteList, word: &[u8], arg: &Expr) -> Result<(), NoMemory>
-    ensures { OnOk result (out.new ≡ out.old ++ (word.now ++ codes "(" ++ text_of (expression arg.now) ++ codes ")")) }
+    ensures { OnOk result (out.new ≡ out.old ++ (word.now ++ codes "("
+        ++ expression_text (expression arg.now) ++ codes ")")) }
 {
     out.extend(word)?;
     print_operand(out, true, arg)
 }
 
-/// Adds a prefix operator and its operand.
+/// Appends a prefix operator and its operand.
 #[cycle(print)]
-fn print_prefixed(out: &mut ByteList, sign: &[u8], arg: &Expr) -> Result<(), NoMemory>
-    ensures { OnOk result (out.new ≡ out.old ++ (sign.now ++ bracketed (nat_lt (Text.level_of (expression arg.now)) 6) (text_of (expression arg.now)))) }
+fn print_prefix_expression(out: &mut ByteList, sign: &[u8], arg: &Expr) -> Result<(), NoMemory>
+    ensures { OnOk result (out.new ≡ out.old ++ (sign.now
+        ++ bracketed_text (nat_lt (Text.level_of (expression arg.now)) 6)
+        (expression_text (expression arg.now)))) }
 {
     out.extend(sign)?;
     print_operand(out, level_of(arg) < PREFIX, arg)
 }
 
-/// Adds an expression, in brackets or not.
+/// Appends an expression, in brackets or not.
 #[cycle(print)]
 fn print_operand(out: &mut ByteList, in_brackets: bool, e: &Expr) -> Result<(), NoMemory>
-    ensures { OnOk result (out.new ≡ out.old ++ bracketed in_brackets (text_of (expression e.now))) }
+    ensures { OnOk result (out.new ≡ out.old ++ bracketed_text in_brackets
+        (expression_text (expression e.now))) }
 {
     if !in_brackets {
         return print_expression(out, e);
@@ -115,13 +119,14 @@ fn print_operand(out: &mut ByteList, in_brackets: bool, e: &Expr) -> Result<(), 
     out.extend(b")")
 }
 
-/// Adds the further operands of a chain, each behind its operator.
+/// Appends the operators of a chain, each with the operand after it.
 #[cycle(print)]
 fn print_links(out: &mut ByteList, level: u8, links: &[Link]) -> Result<(), NoMemory>
-    ensures { OnOk result (out.new ≡ out.old ++ links_text level (links_of (map (λ l. (l.op, l.place, expression l.arg)) links.now))) }
+    ensures { OnOk result (out.new ≡ out.old ++ links_text level
+        (links_of (map (λ l. (l.op, l.place, expression l.arg)) links.now))) }
 {
     for link in links {
-        print_spaced(out, sign_text(link.op))?;
+        print_spaced_text(out, sign_text(link.op))?;
         print_operand(out, level_of(&link.arg) <= level, &link.arg)?;
     }
     Ok(())

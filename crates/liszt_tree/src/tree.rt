@@ -10,7 +10,7 @@ pub type ItemList = Items<Item>;
 /// The statements of a body, or of a block in it.
 pub type StmtList = Items<Stmt>;
 
-/// The further operands of a chain.
+/// The operands of a chain after the first.
 pub type LinkList = Items<Link>;
 
 /// A program: the items of its main part.
@@ -66,7 +66,7 @@ pub enum Item {
     },
 }
 
-/// A statement of a comprehension's body, with places as in `Item`; `set_at` is that of the set's word.
+/// A statement of the body of a comprehension, with places as in `Item`; `set_at` is that of the word of the set.
 #[derive(Debug, Drop)]
 pub enum Stmt {
     Var {
@@ -111,7 +111,7 @@ pub enum Stmt {
     },
 }
 
-/// How an assignment assigns: `=`, a reduction, or `-=`.
+/// The operator of an assignment: `=`, a reduction, or `-=`.
 #[derive(Clone, Copy, Debug, PartialEq, Eq)]
 pub enum How {
     Set,
@@ -119,8 +119,8 @@ pub enum How {
     Less,
 }
 
-/// An expression. A place is that of the first word, of a prefix operator or a comparison that of the operator; a chain's is
-/// that of its first link.
+/// An expression. Its place is that of the first word; of a prefix operator and of a comparison, that of the operator; of a chain,
+/// that of the first link.
 #[cycle(tree)]
 #[derive(Debug, Drop)]
 pub enum Expr {
@@ -168,7 +168,7 @@ pub enum Expr {
     },
 }
 
-/// A further operand of a chain, with its operator and the operator's place.
+/// An operand of a chain after the first, with the operator before it and the place of the operator.
 #[cycle(tree)]
 #[derive(Debug, Drop)]
 pub struct Link {
@@ -189,7 +189,7 @@ pub enum Fun {
     Id,
 }
 
-/// The levels of chains, loosest first.
+/// The levels of chains, the weakest first.
 #[derive(Clone, Copy, Debug, PartialEq, Eq)]
 pub enum Level {
     Or,

@@ -18,9 +18,9 @@ pub fn kind_word(kind: Kind) -> &'static [u8]
     }
 }
 
-/// The word of all elements of a kind.
-pub fn whole_word(kind: Kind) -> &'static [u8]
-    ensures { result.now ≡ Text.whole_word kind }
+/// The word of the set of all elements of a kind.
+pub fn mesh_set_word(kind: Kind) -> &'static [u8]
+    ensures { result.now ≡ Text.mesh_set_word kind }
 {
     match kind {
         Kind::Vertex => b"vertices",

@@ -1,7 +1,7 @@
--- Where tokens lie.
+-- Tokens in a text. Private functions' contracts cite it.
 use Rattle.std.specs.Prelude.{ℕ, ◌≤◌, List, length}
 use Rattle.liszt_lexer.specs.declared.token.Token.{Token}
 
--- a token lies in a text
-abbrev pub Lies : List ℕ → Token → Type 0
-Lies text token = (token.start ≤ token.end) × (token.end ≤ length text)
+-- The bytes of the token are in the text.
+abbrev pub IsInText : List ℕ → Token → Type 0
+IsInText text token = (token.start ≤ token.end) × (token.end ≤ length text)

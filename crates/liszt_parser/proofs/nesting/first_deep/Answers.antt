@@ -1,7 +1,7 @@
 use Rattle.std.proofs.Common.{arith, length, refl, sym, ◌∙◌, ◌<◌}
 use Rattle.std.proofs.lemmas.List.{length-map}
 use Rattle.liszt_parser.specs.Grammar.{lexeme, lexemes}
-use Rattle.liszt_parser.proofs.Nestings.{next_counted, counted_more, too_deep}
+use Rattle.liszt_parser.proofs.NestingLemmas.{next_counted, counted_more, too_deep}
 use Rattle.liszt_parser.proofs.nesting.first_deep.Goals as goal
 
 pub returns-then-is_too_deep : goal.returns-then-is_too_deep

@@ -1,5 +1,5 @@
 use Rattle.liszt_parser.specs.Grammar.{lexemes}
-use Rattle.liszt_parser.specs.Nesting.{IsCounted}
+use Rattle.liszt_parser.specs.Internal.Nesting.{IsCounted}
 use Rattle.liszt_parser.proofs.nesting.first_deep.Given as goal
 
 abbrev pub invariant-loop-place : goal.invariant-loop-place

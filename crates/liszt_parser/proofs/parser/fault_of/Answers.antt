@@ -2,7 +2,7 @@ use Rattle.std.proofs.Common.{◌<◌, length, get_or, ap, sym, subst, ◌∙◌
 use Rattle.liszt_base.specs.declared.answers.Refused.TheVariants.{Fault}
 use Rattle.liszt_lexer.specs.declared.token.Token.{Token}
 use Rattle.liszt_parser.specs.ParseFault.{fault_at}
-use Rattle.liszt_parser.proofs.Parsed.{place_of_token}
+use Rattle.liszt_parser.proofs.ParsedLemmas.{place_of_token}
 use Rattle.liszt_parser.proofs.parser.fault_of.Goals as goal
 
 pub returns-then-place-all : goal.returns-then-place-all

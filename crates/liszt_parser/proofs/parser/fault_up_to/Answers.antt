@@ -3,17 +3,18 @@ use Rattle.std.specs.Prelude.{Err}
 use Rattle.liszt_tree.specs.Tree.{program_tree}
 use Rattle.std.specs.List.{AllByRecursion}
 use Rattle.liszt_parser.specs.Grammar.{lexemes}
-use Rattle.liszt_parser.specs.Lies.{Lies}
-use Rattle.liszt_parser.specs.Parsed.{IsParsed, RefusesBy}
-use Rattle.liszt_parser.proofs.Parsed.{front_lies, front_reads, syntax_first, deep_of_program, deep_at_end}
+use Rattle.liszt_lexer.proofs.LexedTextLemmas.{lexed_parts}
+use Rattle.liszt_parser.specs.Internal.TokenBounds.{IsInText}
+use Rattle.liszt_parser.specs.Internal.ProgramParsing.{IsParsed, RefusesBy}
+use Rattle.liszt_parser.proofs.ParsedLemmas.{front_in_text, front_reads, syntax_first, deep_of_program, deep_at_end}
 use Rattle.liszt_parser.proofs.parser.fault_up_to.Goals.{in-Ok, in-Err-Fault, in-Err-Fault-2, in-Err-NoMemory}
 use Rattle.liszt_parser.proofs.parser.fault_up_to.Goals as goal
 
 pub read_program-requires : goal.read_program-requires
 read_program-requires c =
     let slice = c.as_slice.ensures in
-    subst (λ tokens. AllByRecursion (Lies c.args.text.now) (take (c.args.deep + 1) tokens)) (sym slice)
-    (front_lies c.args.text.now c.args.tokens.now.tokens (c.args.deep + 1) c.requires.lexed.0)
+    subst (λ tokens. AllByRecursion (IsInText c.args.text.now) (take (c.args.deep + 1) tokens)) (sym slice)
+    (front_in_text c.args.text.now c.args.tokens.now.tokens (c.args.deep + 1) (lexed_parts c.args.text.now c.args.tokens.now c.requires.lexed).0)
 
 pub returns : goal.returns
 returns c =

@@ -4,18 +4,18 @@ use Rattle.liszt_base.specs.declared.answers.Refused.TheVariants.{Fault}
 use Rattle.liszt_lexer.specs.declared.token.TokenKind.TheVariants.{Name as NameToken}
 use Rattle.liszt_tree.specs.Tree.{expression, statement_tree}
 use Rattle.liszt_tree.specs.declared.tree.Stmt.{the_lemmas}
-use Rattle.liszt_parser.specs.Sources.{all_of, seen_as}
+use Rattle.liszt_parser.specs.Internal.Sources.{source_lexemes, source_lexeme}
 use Rattle.liszt_parser.specs.Grammar.{how_of}
-use Rattle.liszt_parser.specs.Productions.{assignments, assignments_tree}
+use Rattle.liszt_parser.specs.Internal.Productions.{assignments, assignments_tree}
 use Rattle.liszt_parser.proofs.Readers.{mapped_read}
 use Rattle.liszt_parser.proofs.StatementReaders.{closed_lawful, how_lawful, how_part, how_closed, argument_closed, assignment_lawful, argument_fails, argument_then, argument_read}
-use Rattle.liszt_parser.proofs.Seen.{choice_read, choice_fails}
-use Rattle.liszt_parser.proofs.Steps.{leaves, map_fails, part_fails, part_then, part_read, token_part}
+use Rattle.liszt_parser.proofs.SourceLemmas.{choice_read, choice_fails}
+use Rattle.liszt_parser.proofs.StepLemmas.{leaves, map_fails, part_fails, part_then, part_read, token_part}
 use Rattle.liszt_parser.proofs.statement.assignment.Goals as goal
 
 pub returns-in_err-word : goal.returns-in_err-word
 returns-in_err-word c =
-    let ts = all_of c.args.source.now in
+    let ts = source_lexemes c.args.source.now in
     let refused = c.in_err-word.field-0.0 in
     leaves 1 assignments statement_tree ts c.args.at c.from_residual.result refused c.from_residual.ensures.1
     (map_fails assignments_tree assignment_lawful ts c.args.at refused
@@ -23,42 +23,42 @@ returns-in_err-word c =
 
 pub returns-in_err-target : goal.returns-in_err-target
 returns-in_err-target c =
-    let s = c.args.source.now in let ts = all_of s in
+    let s = c.args.source.now in let ts = source_lexemes s in
     let refused = c.in_err-target.field-0.0 in
     leaves 1 assignments statement_tree ts c.args.at c.from_residual-in_err-target.result refused c.from_residual-in_err-target.ensures.1
     (map_fails assignments_tree assignment_lawful ts c.args.at refused
-    (part_then (token_part NameToken) argument_closed ts c.args.at c.in_ok-word.at (seen_as s c.in_ok-word.word) refused c.in_ok-word.ensures.outcome.2
+    (part_then (token_part NameToken) argument_closed ts c.args.at c.in_ok-word.at (source_lexeme s c.in_ok-word.word) refused c.in_ok-word.ensures.outcome.2
     (argument_fails ts c.in_ok-word.at refused (c.in_err-target.ensures))))
 
 pub returns-in_default : goal.returns-in_default
 returns-in_default c =
-    let s = c.args.source.now in let ts = all_of s in
+    let s = c.args.source.now in let ts = source_lexemes s in
     let refused = (Fault c.in_ok-target.at) in
     map_fails assignments_tree assignment_lawful ts c.args.at refused
-    (part_then (token_part NameToken) argument_closed ts c.args.at c.in_ok-word.at (seen_as s c.in_ok-word.word) refused c.in_ok-word.ensures.outcome.2
+    (part_then (token_part NameToken) argument_closed ts c.args.at c.in_ok-word.at (source_lexeme s c.in_ok-word.word) refused c.in_ok-word.ensures.outcome.2
     (argument_then ts c.in_ok-word.at c.in_ok-target.at (option_map expression c.in_ok-target.target) refused c.in_ok-target.ensures.2
-    (part_fails how_part closed_lawful ts c.in_ok-target.at refused (choice_fails how_of ts (seen_as s) c.in_ok-target.at how_lawful c.in_default.ensures c.in_ok-target.ensures.1))))
+    (part_fails how_part closed_lawful ts c.in_ok-target.at refused (choice_fails how_of ts (source_lexeme s) c.in_ok-target.at how_lawful c.in_default.ensures c.in_ok-target.ensures.1))))
 
 pub returns-in_err-value : goal.returns-in_err-value
 returns-in_err-value c =
-    let s = c.args.source.now in let ts = all_of s in
+    let s = c.args.source.now in let ts = source_lexemes s in
     let refused = c.in_err-value.field-0.0 in
     leaves 1 assignments statement_tree ts c.args.at c.from_residual-in_err-value.result refused c.from_residual-in_err-value.ensures.1
     (map_fails assignments_tree assignment_lawful ts c.args.at refused
-    (part_then (token_part NameToken) argument_closed ts c.args.at c.in_ok-word.at (seen_as s c.in_ok-word.word) refused c.in_ok-word.ensures.outcome.2
+    (part_then (token_part NameToken) argument_closed ts c.args.at c.in_ok-word.at (source_lexeme s c.in_ok-word.word) refused c.in_ok-word.ensures.outcome.2
     (argument_then ts c.in_ok-word.at c.in_ok-target.at (option_map expression c.in_ok-target.target) refused c.in_ok-target.ensures.2
-    (part_then how_part closed_lawful ts c.in_ok-target.at c.in-Some.at (seen_as s c.in-Some.field-0-0-0, c.in-Some.how) refused (choice_read how_of ts (seen_as s) c.in_ok-target.at ((c.in-Some.field-0-0-0, c.in-Some.how), c.in-Some.at) c.in-Some.ensures)
+    (part_then how_part closed_lawful ts c.in_ok-target.at c.in-Some.at (source_lexeme s c.in-Some.field-0-0-0, c.in-Some.how) refused (choice_read how_of ts (source_lexeme s) c.in_ok-target.at ((c.in-Some.field-0-0-0, c.in-Some.how), c.in-Some.at) c.in-Some.ensures)
     (c.in_err-value.ensures)))))
 
 pub returns : goal.returns
 returns c =
     let s = c.args.source.now in
-    let ts = all_of s in (
+    let ts = source_lexemes s in (
       omega (arith, c.in_ok-word.ensures.outcome.0, c.in_ok-target.ensures.0, c.in-Some.ensures.1, c.in_ok-value.ensures.0),
       c.in_ok-value.ensures.1,
-      mapped_read assignments_tree (drop c.args.at ts) (drop c.in_ok-value.at ts) ((seen_as s c.in_ok-word.word), ((option_map expression c.in_ok-target.target), ((seen_as s c.in-Some.field-0-0-0, c.in-Some.how), (expression c.in_ok-value.value)))) _ (search (rules, the_lemmas))
-          (part_read (token_part NameToken) argument_closed (drop c.args.at ts) (drop c.in_ok-word.at ts) (drop c.in_ok-value.at ts) (seen_as s c.in_ok-word.word) ((option_map expression c.in_ok-target.target), ((seen_as s c.in-Some.field-0-0-0, c.in-Some.how), (expression c.in_ok-value.value))) c.in_ok-word.ensures.outcome.2
-          (argument_read how_closed (drop c.in_ok-word.at ts) (drop c.in_ok-target.at ts) (drop c.in_ok-value.at ts) (option_map expression c.in_ok-target.target) ((seen_as s c.in-Some.field-0-0-0, c.in-Some.how), (expression c.in_ok-value.value)) c.in_ok-target.ensures.2
-          (part_read how_part closed_lawful (drop c.in_ok-target.at ts) (drop c.in-Some.at ts) (drop c.in_ok-value.at ts) (seen_as s c.in-Some.field-0-0-0, c.in-Some.how) (expression c.in_ok-value.value) (choice_read how_of ts (seen_as s) c.in_ok-target.at ((c.in-Some.field-0-0-0, c.in-Some.how), c.in-Some.at) c.in-Some.ensures)
+      mapped_read assignments_tree (drop c.args.at ts) (drop c.in_ok-value.at ts) ((source_lexeme s c.in_ok-word.word), ((option_map expression c.in_ok-target.target), ((source_lexeme s c.in-Some.field-0-0-0, c.in-Some.how), (expression c.in_ok-value.value)))) _ (search (rules, the_lemmas))
+          (part_read (token_part NameToken) argument_closed (drop c.args.at ts) (drop c.in_ok-word.at ts) (drop c.in_ok-value.at ts) (source_lexeme s c.in_ok-word.word) ((option_map expression c.in_ok-target.target), ((source_lexeme s c.in-Some.field-0-0-0, c.in-Some.how), (expression c.in_ok-value.value))) c.in_ok-word.ensures.outcome.2
+          (argument_read how_closed (drop c.in_ok-word.at ts) (drop c.in_ok-target.at ts) (drop c.in_ok-value.at ts) (option_map expression c.in_ok-target.target) ((source_lexeme s c.in-Some.field-0-0-0, c.in-Some.how), (expression c.in_ok-value.value)) c.in_ok-target.ensures.2
+          (part_read how_part closed_lawful (drop c.in_ok-target.at ts) (drop c.in-Some.at ts) (drop c.in_ok-value.at ts) (source_lexeme s c.in-Some.field-0-0-0, c.in-Some.how) (expression c.in_ok-value.value) (choice_read how_of ts (source_lexeme s) c.in_ok-target.at ((c.in-Some.field-0-0-0, c.in-Some.how), c.in-Some.at) c.in-Some.ensures)
           c.in_ok-value.ensures.2))),
     )

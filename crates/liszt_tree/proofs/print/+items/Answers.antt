@@ -3,7 +3,7 @@ use Rattle.std.proofs.lemmas.Result.{IfOk-equal}
 use Rattle.liszt_tree.specs.declared.tree.Item.{the_lemmas}
 use Rattle.liszt_tree.specs.Canonical.{item_text}
 use Rattle.liszt_tree.specs.Tree.{item_tree, expression, main_of, MainIf}
-use Rattle.liszt_tree.proofs.Walks.{main_after, step}
+use Rattle.liszt_tree.proofs.ListPrintLemmas.{main_after, step}
 use Rattle.liszt_tree.proofs.print.+items.Goals as goal
 
 pub print_item-returns-in_ok-print_main_else-in-If : goal.print_item-returns-in_ok-print_main_else-in-If

@@ -1,5 +1,5 @@
 use Rattle.std.proofs.Common.{◌≡◌, ◌++◌, drop}
-use Rattle.liszt_tree.proofs.Walks.{main_after}
+use Rattle.liszt_tree.proofs.ListPrintLemmas.{main_after}
 use Rattle.liszt_tree.proofs.print.+items.Given as goal
 
 abbrev pub invariant-print_main-loop-item : goal.invariant-print_main-loop-item

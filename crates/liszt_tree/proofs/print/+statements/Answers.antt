@@ -3,7 +3,7 @@ use Rattle.std.proofs.lemmas.Result.{IfOk-equal}
 use Rattle.liszt_tree.specs.declared.tree.Stmt.{the_lemmas}
 use Rattle.liszt_tree.specs.Canonical.{statement_text}
 use Rattle.liszt_tree.specs.Tree.{statement_tree, expression, body_of, If}
-use Rattle.liszt_tree.proofs.Walks.{body_after, step}
+use Rattle.liszt_tree.proofs.ListPrintLemmas.{body_after, step}
 use Rattle.liszt_tree.proofs.print.+statements.Goals as goal
 
 pub print_statement-returns-in_ok-print_else-in-If : goal.print_statement-returns-in_ok-print_else-in-If

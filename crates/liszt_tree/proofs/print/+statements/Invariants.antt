@@ -1,5 +1,5 @@
 use Rattle.std.proofs.Common.{◌≡◌, ◌++◌, drop}
-use Rattle.liszt_tree.proofs.Walks.{body_after}
+use Rattle.liszt_tree.proofs.ListPrintLemmas.{body_after}
 use Rattle.liszt_tree.proofs.print.+statements.Given as goal
 
 abbrev pub invariant-print_body-loop-statement : goal.invariant-print_body-loop-statement

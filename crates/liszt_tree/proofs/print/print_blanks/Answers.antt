@@ -1,5 +1,5 @@
 use Rattle.std.proofs.Common.{append_assoc, rules}
-use Rattle.liszt_tree.proofs.Lines.{repeat_more}
+use Rattle.liszt_tree.proofs.LineLemmas.{repeat_more}
 use Rattle.liszt_tree.proofs.print.print_blanks.Goals as goal
 
 pub loop-preserved : goal.loop-preserved

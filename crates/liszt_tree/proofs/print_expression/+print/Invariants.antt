@@ -1,5 +1,5 @@
 use Rattle.std.proofs.Common.{◌≡◌, ◌++◌, drop}
-use Rattle.liszt_tree.proofs.Walks.{links_after}
+use Rattle.liszt_tree.proofs.ListPrintLemmas.{links_after}
 use Rattle.liszt_tree.proofs.print_expression.+print.Given as goal
 
 abbrev pub invariant-print_links-loop-link : goal.invariant-print_links-loop-link

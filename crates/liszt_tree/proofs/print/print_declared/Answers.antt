@@ -1,6 +1,0 @@
-use Rattle.std.proofs.Common.{rules}
-use Rattle.liszt_tree.proofs.Lines.{line_steps}
-use Rattle.liszt_tree.proofs.print.print_declared.Goals as goal
-
-pub returns : goal.returns
-returns c = search (rules, line_steps)
