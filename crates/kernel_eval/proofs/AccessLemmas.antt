@@ -1,4 +1,4 @@
--- What a typed body accesses by its global names is among the steps of its walk.
+-- The accesses of a typed body by its global names are among the steps of its walk.
 use Rattle.std.proofs.Common.{◌≡◌, ◌⊎◌, ℕ, List, [], ◌∷◌, ◌++◌, refl, sym, ap, subst, ◌∙◌, inl, inr}
 use Rattle.std.proofs.lemmas.Bool.{cases_Bool}
 use Rattle.std.proofs.lemmas.Slice.Eq.{bytes_eq-Decides}
@@ -39,8 +39,8 @@ both : {a : Access} {X Y : Type 0} {xs ys : List Step} → (X → Seen a xs) →
 both f g (inl t) = left _ f t
 both f g (inr t) = right _ g t
 
--- NAMES: what a name stands for in a body, where `global` is what it stood for in front of it. A field and a scalar is one from there, and what
--- a local number is named wasn't a scalar.
+-- NAMES: the binding of a name in a body, and its binding `globals` before the body. A field or a scalar is bound in both, and the name of
+-- a local number was no scalar.
 abbrev AgreesAt : Option Binding → Option Binding → Type 0
 AgreesAt (Some (ElementName kind)) global = Unit {0}
 AgreesAt (Some LocalName) global = (mode : Mode) (a : Access) → TouchesScalar global mode a → ⊥
@@ -70,12 +70,12 @@ agree_more g name entry h = record {
 agree_element : {globals environment : Environment} → Agree globals environment → (name : List ℕ) (kind : Kind) → Agree globals ((name, ElementName kind) ∷ environment)
 agree_element g name kind = agree_more g name (ElementName kind) (tt {0})
 
-behind : {globals environment behind : Environment} {s : Statement} → Agree globals environment → StatementFits environment s behind
-    → Agree globals behind × (behind ≡ environment_after environment s)
-behind g (FitsVar place name at h new) = (agree_more g name LocalName (λ mode a t. rw (agree_at g name new) at t), refl)
-behind {environment = environment} g (FitsVal {kind = kind} place name at h new) =
+after_environment : {globals environment after_environment : Environment} {s : Statement} → Agree globals environment → StatementFits environment s after_environment
+    → Agree globals after_environment × (after_environment ≡ environment_after environment s)
+after_environment g (FitsVar place name at h new) = (agree_more g name LocalName (λ mode a t. rw (agree_at g name new) at t), refl)
+after_environment {environment = environment} g (FitsVal {kind = kind} place name at h new) =
     (agree_element g name kind, ap (λ type. with_val name type environment) (sym (computed h)))
-behind g _ = (g, refl)
+after_environment g _ = (g, refl)
 
 module _ {globals : Environment} {a : Access} where
   seen_field : {environment : Environment} {number : ℕ} {kind : Kind} {mode : Mode} → Agree globals environment → (place : Place) (name : List ℕ)
@@ -105,7 +105,7 @@ module _ {globals : Environment} {a : Access} where
     seen_after g found (OneLink sign place is h rest) = both (left _ (seen g h)) (seen_after g _ rest)
 
   mutual
-    seen_statement : {environment behind : Environment} {s : Statement} → Agree globals environment → StatementFits environment s behind → StatementTouches globals a s
+    seen_statement : {environment after_environment : Environment} {s : Statement} → Agree globals environment → StatementFits environment s after_environment → StatementTouches globals a s
         → Seen a (statement_steps environment s)
     seen_statement g (FitsVar place name at h new) = left _ (left _ (seen g h))
     seen_statement g (FitsVal place name at h new) = left _ (left _ (seen g h))
@@ -120,9 +120,9 @@ module _ {globals : Environment} {a : Access} where
 
     seen_body : {environment : Environment} {body : Body} → Agree globals environment → BodyFits environment body → BodyTouches globals a body → Seen a (body_steps environment body)
     seen_body g (FitsNothing environment) = λ t. absurd t
-    seen_body g (FitsThen s rest) = both (seen_statement g s) (λ t. rw (← (behind g s).1) (seen_body (behind g s).0 rest t))
+    seen_body g (FitsThen s rest) = both (seen_statement g s) (λ t. rw (← (after_environment g s).1) (seen_body (after_environment g s).0 rest t))
 
--- ONE MODE: what is among the steps has the mode of its first access.
+-- ONE MODE: an access among the steps has the mode of the first access.
 later_mode : {a : Access} {steps : List Step} (access : AccessAt) → access.subject ≡ a.0 → AllByRecursion (AgreesWith access) (filter_map access_of steps)
     → Seen a steps → access.mode ≡ a.1
 later_mode access is all (SeenNow other steps now) = all.0 (same_subjects access.subject other.subject (is ∙ ap (λ a. a.0) (sym now))) ∙ ap (λ a. a.1) now
@@ -138,7 +138,7 @@ seen_mode {a = a} one (SeenLater (AccessStep access) h) = elim (cases_Bool (is_s
   | inr is ↦ rw is (seen_mode one.1 h)
 ]
 
--- what a comprehension's body accesses, it accesses in the one mode
+-- the accesses of the body of a comprehension have the one mode
 pub touched_in_mode : (c : Comprehension) → ComprehensionFits c → (a : Access) → BodyTouches c.environment a c.body → mode_in c a.0 ≡ Some a.1
 touched_in_mode c fits a t =
     seen_mode fits.one_mode (seen_body (agree_element (record { agrees = λ name. agrees_with_itself (binding_of c.environment name) }) c.name c.over) fits.body_fits t)

@@ -1,4 +1,4 @@
--- What meanings keep: turns never rise, and acts make the fields.
+-- Computations preserve that turns do not increase, and that acts determine the fields.
 use Rattle.std.proofs.Common.{◌≡◌, ℕ, List, [], ◌∷◌, ◌++◌, refl, sym, ap, ◌∙◌, arith}
 use Rattle.std.proofs.lemmas.List.{append-nil, append_assoc}
 use Rattle.std.specs.Prelude.{Option, Some, None, ℤ}
@@ -10,7 +10,7 @@ use Rattle.phase_types.specs.Walk.{mode_by}
 use Rattle.kernel_eval.specs.Preservation.{HasNoMoreTurns, fields_after_act, fields_after_acts, ActsDetermineFields}
 use Rattle.kernel_eval.specs.Meaning.{operand, assigned_value, with_scalar_fold}
 use Rattle.kernel_eval.specs.States.{Fields, value_in, with_value, Act, EvaluationState, with_state, with_scalar_value}
-use Rattle.kernel_eval.proofs.PreservationLemmas.{IsKept}
+use Rattle.kernel_eval.proofs.PreservationLemmas.{IsFilter}
 
 abbrev folded : How → ℤ → ℕ → ℤ → EvaluationState → EvaluationState
 folded how n scalar old m = with_scalar_fold how scalar n (with_state (with_scalar_value scalar (assigned_value how old n) m.state) m)
@@ -20,7 +20,7 @@ folded_turns Set n scalar old m = refl
 folded_turns (Fold op) n scalar old m = refl
 folded_turns Less n scalar old m = refl
 
-pub turns_kept : IsKept (λ a. Unit {0}) HasNoMoreTurns
+pub turns_kept : IsFilter (λ a. Unit {0}) HasNoMoreTurns
 turns_kept =
     record {
       same = λ m. omega arith;
@@ -30,7 +30,7 @@ turns_kept =
       element = λ name x m. omega arith;
       read = λ spot n m any. omega arith;
       spot_set = λ spot how n old m any e. omega arith;
-      assign_main_scalar = λ how n scalar old m any. omega (arith, folded_turns how n scalar old m);
+      scalar_assignment = λ how n scalar old m any. omega (arith, folded_turns how n scalar old m);
       block = λ before m r. r;
       turn = λ n m e. omega (arith, e);
     }
@@ -67,7 +67,7 @@ both a b c r s =
       fields_are = s.fields_are ∙ ap (λ fields. fields_after_acts fields s.rest) r.fields_are ∙ sym (after_more r.rest s.rest a.state.fields);
     }
 
-pub fields_made : IsKept (λ a. Unit {0}) ActsDetermineFields
+pub fields_made : IsFilter (λ a. Unit {0}) ActsDetermineFields
 fields_made =
     record {
       same = λ m. no_act m m refl refl;
@@ -86,7 +86,7 @@ fields_made =
         fields_are = sym (set_is_act spot how n old m.state.fields)
             ∙ ap (λ value. fields_after_act (record { spot = spot; mode = mode_by how; value = operand how n }) value m.state.fields) (sym e);
       };
-      assign_main_scalar = λ how n scalar old m any. folded_acts how n scalar old m;
+      scalar_assignment = λ how n scalar old m any. folded_acts how n scalar old m;
       block = λ before m r. record { rest = r.rest; acts_are = r.acts_are; fields_are = r.fields_are };
       turn = λ n m e. no_act m _ refl refl;
     }

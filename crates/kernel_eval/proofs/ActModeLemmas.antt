@@ -1,5 +1,5 @@
--- What an iteration of a typed comprehension keeps: each act has its field's one mode, each reduction its scalar's, and a field that is
--- neither written nor reduced stays as it was.
+-- Iterations of a typed comprehension: each act has the one mode of its field, each reduction that of its scalar, and a field that is
+-- neither written nor reduced is unchanged.
 use Rattle.std.proofs.Common.{◌≡◌, ℕ, ◌==◌, List, [], ◌∷◌, ◌++◌, refl, sym, ap, subst, ◌∙◌, arith}
 use Rattle.std.proofs.lemmas.Bool.Decides.{nat_tests}
 use Rattle.std.specs.Prelude.{Some, ℤ}
@@ -16,7 +16,7 @@ use Rattle.kernel_eval.specs.Preservation.{HasTheMode, FoldsByTheMode, ChangesNo
 use Rattle.kernel_eval.specs.Meaning.{assigned_value, with_scalar_fold}
 use Rattle.kernel_eval.specs.States.{Fields, with_value, State, EvaluationState, with_state, with_scalar_value}
 use Rattle.kernel_eval.proofs.AccessLemmas.{touched_in_mode}
-use Rattle.kernel_eval.proofs.PreservationLemmas.{IsKept, Access, keeps_body}
+use Rattle.kernel_eval.proofs.PreservationLemmas.{IsFilter, Access, keeps_body}
 
 abbrev KeepsModes : Comprehension → EvaluationState → EvaluationState → Type 0
 KeepsModes c m after =
@@ -28,7 +28,7 @@ all_and_one : {A : Type 0} (Holds : A → Type 0) (xs : List A) (x : A) → AllB
 all_and_one Holds [] x all h = (h, tt {0})
 all_and_one Holds (y ∷ ys) x all h = (all.0, all_and_one Holds ys x all.1 h)
 
--- a field elsewhere than a spot that is set
+-- a field other than that of a spot that is set
 elsewhere : (spot : Spot) (value : ℤ) (field : ℕ) → (spot.field ≡ field → ⊥) → (fields : Fields)
     → lookup (λ number. number == field) (with_value spot value fields) ≡ lookup (λ number. number == field) fields
 elsewhere spot value field other [] = refl
@@ -49,7 +49,7 @@ reduced : (c : Comprehension) (how : How) (n : ℤ) (scalar : ℕ) (old : ℤ) (
 reduced c Set n scalar old m h = unchanged c m
 reduced c _ n scalar old m h = (λ all. all, λ all. all_and_one _ m.folds _ all h, λ field none. refl)
 
-modes_kept : (c : Comprehension) → IsKept (InMode c) (KeepsModes c)
+modes_kept : (c : Comprehension) → IsFilter (InMode c) (KeepsModes c)
 modes_kept c =
     record {
       same = unchanged c;
@@ -64,7 +64,7 @@ modes_kept c =
         λ field none. elsewhere spot (assigned_value how old n) field
             (λ is. assignment_changes how (subst ChangesNothing (ap (λ field. mode_in c (OfField field)) (sym is) ∙ h) none)) m.state.fields,
       );
-      assign_main_scalar = reduced c;
+      scalar_assignment = reduced c;
       block = λ before m r. r;
       turn = λ n m e. unchanged c m;
     }

@@ -1,10 +1,10 @@
--- What doing one thing after the other keeps, where each of them does, whatever stands: the relation leads from each to itself, and on.
+-- Sequences, branches and loops preserve a reflexive and transitive relation if their parts do.
 use Rattle.std.proofs.Common.{◌≡◌, ℕ, zero, suc, Bool, true, false, List, [], ◌∷◌, refl}
 use Rattle.std.specs.Prelude.{Result, Ok, Err}
 use Rattle.kernel_eval.specs.Preservation.{Preserves}
 use Rattle.kernel_eval.specs.Outcomes.{Stop, Outcome, continue_with, and_then, if_then_else, for_each, skip, Turns, take_turn, loop_within, loop}
 
-pub record LeadsOn {S : Type 0} (R : S → S → Type 0) : Type 0 where
+pub record IsPreorder {S : Type 0} (R : S → S → Type 0) : Type 0 where
   pub same : (s : S) → R s s
   pub later : (a b c : S) → R a b → R b c → R a c
 
@@ -13,7 +13,7 @@ pub keeps_if : {S A : Type 0} {R : S → S → Type 0} {this other : S → Outco
 keeps_if true f g = f
 keeps_if false f g = g
 
-module _ {S : Type 0} {R : S → S → Type 0} (leads : LeadsOn R) where
+module _ {S : Type 0} {R : S → S → Type 0} (leads : IsPreorder R) where
   keeps_continue : {A B : Type 0} {next : A → S → Outcome S B} → ((a : A) → Preserves R (next a)) → (before s : S) → R before s
       → (answer : Result A Stop) → R before (continue_with next s answer).after
   keeps_continue h before s r (Ok a) = leads.later before s _ r ((h a).preserved s)
@@ -26,11 +26,11 @@ module _ {S : Type 0} {R : S → S → Type 0} (leads : LeadsOn R) where
   pub skip_keeps : Preserves R (skip {S = S})
   skip_keeps = record { preserved = leads.same }
 
-  pub keeps_each : {X : Type 0} {computation : X → S → Outcome S (Unit {0})} → ((x : X) → Preserves R (computation x)) → (xs : List X) → Preserves R (for_each computation xs)
-  keeps_each h [] = skip_keeps
-  keeps_each h (x ∷ xs) = keeps_then (h x) (λ done. keeps_each h xs)
+  pub keeps_for_each : {X : Type 0} {computation : X → S → Outcome S (Unit {0})} → ((x : X) → Preserves R (computation x)) → (xs : List X) → Preserves R (for_each computation xs)
+  keeps_for_each h [] = skip_keeps
+  keeps_for_each h (x ∷ xs) = keeps_then (h x) (λ done. keeps_for_each h xs)
 
-  -- loops, where taking a turn keeps it
+  -- loops, if taking a turn preserves the relation
   module _ (turns : Turns S) (turn : (n : ℕ) (s : S) → turns.remaining s ≡ suc n → R s (turns.set_remaining n s)) where
     keeps_turn : {spent body : S → Outcome S (Unit {0})} → Preserves R spent → Preserves R body → (left : ℕ) (s : S) → turns.remaining s ≡ left
         → R s (take_turn turns spent body left s).after

@@ -1,10 +1,10 @@
--- A loop is its test, a turn, its body, and itself again: the number that bounds it never shows, for no step raises the turns.
+-- A loop unfolds: the count of its definition does not end before the turns, since no step increases the turns.
 use Rattle.std.proofs.Common.{◌≡◌, ℕ, zero, suc, ◌≤◌, Bool, true, false, refl, sym, ◌∙◌, arith}
 use Rattle.std.specs.Prelude.{Result, Ok, Err}
 use Rattle.kernel_eval.specs.Preservation.{Preserves, loop_unfolded}
 use Rattle.kernel_eval.specs.Outcomes.{Stop, Outcome, continue_with, and_then, if_then_else, skip, Turns, take_turn, loop_within, loop}
 
-module _ {S : Type 0} (turns : Turns S) (left_is : (n : ℕ) (s : S) → turns.remaining (turns.set_remaining n s) ≡ n) where
+module _ {S : Type 0} (turns : Turns S) (remaining_is : (n : ℕ) (s : S) → turns.remaining (turns.set_remaining n s) ≡ n) where
   abbrev Step : Type 0
   Step = S → Outcome S (Unit {0})
 
@@ -20,37 +20,37 @@ module _ {S : Type 0} (turns : Turns S) (left_is : (n : ℕ) (s : S) → turns.r
   same_choice this other s e true = e
   same_choice this other s e false = refl
 
-  -- `spent` stops
+  -- `spent` halts
   module _ (spent : Step) (body : Step) (test : S → Outcome S Bool) (halt : (again : Step) (s : S) → and_then spent (λ done. again) s ≡ spent s)
       (bodies : Preserves Fewer body) (tests : Preserves Fewer test) where
-    abbrev taking : ℕ → Step
-    taking left s = take_turn turns spent body left s
+    abbrev turn_with : ℕ → Step
+    turn_with left s = take_turn turns spent body left s
 
     abbrev turn_and : Step → Step
-    turn_and again s = and_then (λ s. taking (turns.remaining s) s) (λ done. again) s
+    turn_and again s = and_then (λ s. turn_with (turns.remaining s) s) (λ done. again) s
 
     fewer : (s : S) → turns.remaining (test s).after ≤ turns.remaining s
     fewer s = tests.preserved s
 
     less : (n : ℕ) (s : S) → turns.remaining (body (turns.set_remaining n s)).after ≤ n
-    less n s = omega (arith, bodies.preserved (turns.set_remaining n s), left_is n s)
+    less n s = omega (arith, bodies.preserved (turns.set_remaining n s), remaining_is n s)
 
-    none_left : (s : S) → turns.remaining s ≤ 0 → turns.remaining (test s).after ≤ 0
-    none_left s none = omega (arith, fewer s, none)
+    none_remaining : (s : S) → turns.remaining s ≤ 0 → turns.remaining (test s).after ≤ 0
+    none_remaining s none = omega (arith, fewer s, none)
 
-    -- behind a turn there are fewer; where there is none it is spent
+    -- after a turn fewer remain; without a turn it is `spent`
     turn_then : (again other : Step) (left : ℕ) (s : S) → ((u : S) → suc (turns.remaining u) ≤ left → again u ≡ other u)
-        → continue_with (λ done. again) (taking left s).after (taking left s).answer ≡ continue_with (λ done. other) (taking left s).after (taking left s).answer
+        → continue_with (λ done. again) (turn_with left s).after (turn_with left s).answer ≡ continue_with (λ done. other) (turn_with left s).after (turn_with left s).answer
     turn_then again other zero s h = halt again s ∙ sym (halt other s)
     turn_then again other (suc n) s h =
         same_next (λ done. again) (λ done. other) (body (turns.set_remaining n s)).after (body (turns.set_remaining n s)).answer
         (λ done. h (body (turns.set_remaining n s)).after (omega (arith, less n s)))
 
-    no_turn : (again : Step) (left : ℕ) (s : S) → left ≤ 0 → continue_with (λ done. again) (taking left s).after (taking left s).answer ≡ spent s
+    no_turn : (again : Step) (left : ℕ) (s : S) → left ≤ 0 → continue_with (λ done. again) (turn_with left s).after (turn_with left s).answer ≡ spent s
     no_turn again zero s h = halt again s
     no_turn again (suc n) s h = absurd (omega (arith, h))
 
-    -- behind the test
+    -- after the test
     same_test : (this other : Step) (s : S) → this (test s).after ≡ other (test s).after
         → and_then test (λ b. if_then_else b this skip) s ≡ and_then test (λ b. if_then_else b other skip) s
     same_test this other s e =
@@ -62,9 +62,9 @@ module _ {S : Type 0} (turns : Turns S) (left_is : (n : ℕ) (s : S) → turns.r
 
     spent_or : (again : Step) (s : S) → turns.remaining s ≤ 0
         → and_then test (λ b. if_then_else b spent skip) s ≡ and_then test (λ b. if_then_else b (turn_and again) skip) s
-    spent_or again s none = same_test spent (turn_and again) s (sym (no_turn again (turns.remaining (test s).after) (test s).after (none_left s none)))
+    spent_or again s none = same_test spent (turn_and again) s (sym (no_turn again (turns.remaining (test s).after) (test s).after (none_remaining s none)))
 
-    -- two bounds that are the turns or more come to the same
+    -- two bounds that are not below the turns have the same result
     stable : (n m : ℕ) (s : S) → turns.remaining s ≤ n → turns.remaining s ≤ m → within n s ≡ within m s
     stable zero zero s h g = refl
     stable zero (suc m) s h g = spent_or (within m) s h

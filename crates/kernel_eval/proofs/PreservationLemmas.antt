@@ -1,5 +1,5 @@
--- What every meaning keeps because each of its single changes does: one induction over expressions, statements and bodies. A change of a
--- field or a scalar has to keep it only for what the body accesses.
+-- Meanings preserve a relation that each of their single changes preserves: one induction over expressions, statements and bodies. A change
+-- of a field or a scalar must preserve it only for the accesses of the body.
 use Rattle.std.proofs.Common.{◌≡◌, ◌⊎◌, ℕ, suc, List, refl, inl, inr}
 use Rattle.std.specs.Prelude.{Option, Some, None, ℤ, Result, Ok, Err, ◌&&◌, int_le, pos, int_div, int_rem, ◌+ℤ◌, ◌-ℤ◌, ◌*ℤ◌, neg_ℤ}
 use Rattle.liszt_base.specs.MeshLists.{MeshLists}
@@ -22,12 +22,12 @@ use Rattle.topo_operators.specs.Operators.{towards, members}
 use Rattle.phase_types.specs.Environments.{Environment, Binding, FieldName, ScalarName, binding_of}
 use Rattle.phase_types.specs.Walk.{Subject, OfField, OfScalar, mode_by}
 use Rattle.kernel_eval.specs.Preservation.{Preserves}
-use Rattle.kernel_eval.proofs.ComputationLemmas.{LeadsOn, keeps_then, keeps_if, keeps_each, keeps_loop}
+use Rattle.kernel_eval.proofs.ComputationLemmas.{IsPreorder, keeps_then, keeps_if, keeps_for_each, keeps_loop}
 use Rattle.kernel_eval.specs.Outcomes.{Stop, Outcome, pure, continue_with, modify}
 use Rattle.kernel_eval.specs.States.{EvaluationState, value_in, with_value, with_fields, with_scalar_value, scalar_value, with_local, with_local_value, with_element, with_act, with_state, after_block, local_bound_to, element_bound_to}
 use Rattle.kernel_eval.specs.Meaning.{Value, NumberValue, TruthValue, ElementValue, number_of, truth_of, element_of, checked_number, checked_division, operator_result, is_decided, negation, complement, comparison_result, id_result, call_result, scalar_read, global_read, name_read, read_spot, field_read, spot_of, spot_value, is_in_range, meaning, links_meaning, number_in, truth_in, element_in, operand, assigned_value, assign_spot, assign_field, with_scalar_fold, assign_scalar, assign_global, assign_name, in_block, evaluation_turns, for_each_member, statement_meaning, body_meaning, trap}
 
--- WHAT A BODY ACCESSES by the names that are global: the fields that it reads or assigns, and the scalars that it assigns
+-- THE ACCESSES OF A BODY by global names: the fields that it reads or assigns, and the scalars that it assigns
 abbrev pub Access : Type 0
 Access = Subject × Mode
 
@@ -69,8 +69,8 @@ abbrev mutual
   BodyTouches environment a no_statement = ⊥
   BodyTouches environment a (statement s rest) = StatementTouches environment a s ⊎ BodyTouches environment a rest
 
--- WHAT SINGLE CHANGES KEEP, those of fields and scalars where P admits the access
-pub record IsKept (P : Access → Type 0) (R : EvaluationState → EvaluationState → Type 0) : Type 0 where
+-- SINGLE CHANGES preserve the relation, those of fields and scalars if P admits the access
+pub record IsFilter (P : Access → Type 0) (R : EvaluationState → EvaluationState → Type 0) : Type 0 where
   pub same : (m : EvaluationState) → R m m
   pub later : (a b c : EvaluationState) → R a b → R b c → R a c
   pub local : (name : List ℕ) (n : ℤ) (m : EvaluationState) → R m (with_local name n m)
@@ -79,16 +79,16 @@ pub record IsKept (P : Access → Type 0) (R : EvaluationState → EvaluationSta
   pub read : (spot : Spot) (n : ℤ) (m : EvaluationState) → P (OfField spot.field, Read) → R m (with_act (record { spot = spot; mode = Read; value = n }) m)
   pub spot_set : (spot : Spot) (how : How) (n old : ℤ) (m : EvaluationState) → P (OfField spot.field, mode_by how) → value_in m.state.fields spot ≡ Some old
       → R m (with_act (record { spot = spot; mode = mode_by how; value = operand how n }) (with_state (with_fields (with_value spot (assigned_value how old n) m.state.fields) m.state) m))
-  pub assign_main_scalar : (how : How) (n : ℤ) (scalar : ℕ) (old : ℤ) (m : EvaluationState) → P (OfScalar scalar, mode_by how)
+  pub scalar_assignment : (how : How) (n : ℤ) (scalar : ℕ) (old : ℤ) (m : EvaluationState) → P (OfScalar scalar, mode_by how)
       → R m (with_scalar_fold how scalar n (with_state (with_scalar_value scalar (assigned_value how old n) m.state) m))
   pub block : (before m : EvaluationState) → R before m → R before (after_block before m)
   pub turn : (n : ℕ) (m : EvaluationState) → m.state.turns ≡ suc n → R m (with_state (record m.state { turns = n }) m)
 
-module _ {P : Access → Type 0} {R : EvaluationState → EvaluationState → Type 0} (k : IsKept P R) where
+module _ {P : Access → Type 0} {R : EvaluationState → EvaluationState → Type 0} (k : IsFilter P R) where
   abbrev Only : (Access → Type 0) → Type 0
   Only Touched = (a : Access) → Touched a → P a
 
-  pub leads : LeadsOn R
+  pub leads : IsPreorder R
   leads = record { same = k.same; later = k.later }
 
   -- single steps of expressions
@@ -104,42 +104,42 @@ module _ {P : Access → Type 0} {R : EvaluationState → EvaluationState → Ty
   keeps_element_of (ElementValue x) = record { preserved = k.same }
   keeps_element_of _ = record { preserved = k.same }
 
-  keeps_fitting : (place : Place) (n : ℤ) → Preserves R (checked_number place n)
-  keeps_fitting place n = keeps_if {this = pure (NumberValue n)} {other = trap Overflow place} (is_in_range n) (record { preserved = k.same }) (record { preserved = k.same })
+  keeps_checked_number : (place : Place) (n : ℤ) → Preserves R (checked_number place n)
+  keeps_checked_number place n = keeps_if {this = pure (NumberValue n)} {other = trap Overflow place} (is_in_range n) (record { preserved = k.same }) (record { preserved = k.same })
 
-  keeps_divided : (place : Place) (b : ℤ) {by : EvaluationState → Outcome EvaluationState Value} → Preserves R by → Preserves R (checked_division place b by)
-  keeps_divided place b h = keeps_if {this = trap ZeroDivide place} (int_le b (pos 0) && int_le (pos 0) b) (record { preserved = k.same }) h
+  keeps_checked_division : (place : Place) (b : ℤ) {by : EvaluationState → Outcome EvaluationState Value} → Preserves R by → Preserves R (checked_division place b by)
+  keeps_checked_division place b h = keeps_if {this = trap ZeroDivide place} (int_le b (pos 0) && int_le (pos 0) b) (record { preserved = k.same }) h
 
   number_keeps : (n : ℤ) → Preserves R (pure (NumberValue n))
   number_keeps n = record { preserved = k.same }
 
-  keeps_operated : (sign : Sign) (place : Place) (v w : Value) → Preserves R (operator_result sign place v w)
-  keeps_operated Or place (TruthValue a) (TruthValue b) = record { preserved = k.same }
-  keeps_operated And place (TruthValue a) (TruthValue b) = record { preserved = k.same }
-  keeps_operated Plus place (NumberValue a) (NumberValue b) = keeps_fitting place (a +ℤ b)
-  keeps_operated Minus place (NumberValue a) (NumberValue b) = keeps_fitting place (a -ℤ b)
-  keeps_operated Times place (NumberValue a) (NumberValue b) = keeps_fitting place (a *ℤ b)
-  keeps_operated Over place (NumberValue a) (NumberValue b) = keeps_divided place b (keeps_fitting place (int_div a b))
-  keeps_operated Rest place (NumberValue a) (NumberValue b) = keeps_divided place b (number_keeps (int_rem a b))
-  keeps_operated _ place _ _ = record { preserved = k.same }
+  keeps_operator_result : (sign : Sign) (place : Place) (v w : Value) → Preserves R (operator_result sign place v w)
+  keeps_operator_result Or place (TruthValue a) (TruthValue b) = record { preserved = k.same }
+  keeps_operator_result And place (TruthValue a) (TruthValue b) = record { preserved = k.same }
+  keeps_operator_result Plus place (NumberValue a) (NumberValue b) = keeps_checked_number place (a +ℤ b)
+  keeps_operator_result Minus place (NumberValue a) (NumberValue b) = keeps_checked_number place (a -ℤ b)
+  keeps_operator_result Times place (NumberValue a) (NumberValue b) = keeps_checked_number place (a *ℤ b)
+  keeps_operator_result Over place (NumberValue a) (NumberValue b) = keeps_checked_division place b (keeps_checked_number place (int_div a b))
+  keeps_operator_result Rest place (NumberValue a) (NumberValue b) = keeps_checked_division place b (number_keeps (int_rem a b))
+  keeps_operator_result _ place _ _ = record { preserved = k.same }
 
-  keeps_negated : (place : Place) (v : Value) → Preserves R (negation place v)
-  keeps_negated place (NumberValue n) = keeps_fitting place (neg_ℤ n)
-  keeps_negated place _ = record { preserved = k.same }
+  keeps_negation : (place : Place) (v : Value) → Preserves R (negation place v)
+  keeps_negation place (NumberValue n) = keeps_checked_number place (neg_ℤ n)
+  keeps_negation place _ = record { preserved = k.same }
 
-  keeps_denied : (v : Value) → Preserves R (complement v)
-  keeps_denied (TruthValue b) = record { preserved = k.same }
-  keeps_denied _ = record { preserved = k.same }
+  keeps_complement : (v : Value) → Preserves R (complement v)
+  keeps_complement (TruthValue b) = record { preserved = k.same }
+  keeps_complement _ = record { preserved = k.same }
 
-  keeps_compared : (rel : Rel) (v w : Value) → Preserves R (comparison_result rel v w)
-  keeps_compared rel (NumberValue a) (NumberValue b) = record { preserved = k.same }
-  keeps_compared Same (ElementValue x) (ElementValue y) = record { preserved = k.same }
-  keeps_compared Other (ElementValue x) (ElementValue y) = record { preserved = k.same }
-  keeps_compared rel _ _ = record { preserved = k.same }
+  keeps_comparison : (rel : Rel) (v w : Value) → Preserves R (comparison_result rel v w)
+  keeps_comparison rel (NumberValue a) (NumberValue b) = record { preserved = k.same }
+  keeps_comparison Same (ElementValue x) (ElementValue y) = record { preserved = k.same }
+  keeps_comparison Other (ElementValue x) (ElementValue y) = record { preserved = k.same }
+  keeps_comparison rel _ _ = record { preserved = k.same }
 
-  keeps_id_at : (place : Place) (x : Option Elem) → Preserves R (id_result place x)
-  keeps_id_at place (Some x) = record { preserved = k.same }
-  keeps_id_at place None = record { preserved = k.same }
+  keeps_id_result : (place : Place) (x : Option Elem) → Preserves R (id_result place x)
+  keeps_id_result place (Some x) = record { preserved = k.same }
+  keeps_id_result place None = record { preserved = k.same }
 
   keeps_call : (mesh : MeshLists) (place : Place) (fun : Fun) (x : Option Elem) → Preserves R (call_result mesh place fun x)
   keeps_call mesh place Head x = record { preserved = k.same }
@@ -148,7 +148,7 @@ module _ {P : Access → Type 0} {R : EvaluationState → EvaluationState → Ty
   keeps_call mesh place Outside x = record { preserved = k.same }
   keeps_call mesh place Flip x = record { preserved = k.same }
   keeps_call mesh place Valid x = record { preserved = k.same }
-  keeps_call mesh place Id x = keeps_id_at place x
+  keeps_call mesh place Id x = keeps_id_result place x
 
   keeps_scalar_read : (value : Option ℤ) → Preserves R (scalar_read value)
   keeps_scalar_read (Some n) = record { preserved = k.same }
@@ -191,20 +191,20 @@ module _ {P : Access → Type 0} {R : EvaluationState → EvaluationState → Ty
         keeps_then leads (keeps_meaning mesh environment arg (λ a t. h a (inl t))) (λ v. keeps_then leads (keeps_element_of v)
         (λ x. keeps_then leads (keeps_meaning mesh environment to (λ a t. h a (inr t)))
         (λ w. keeps_then leads (keeps_element_of w) (λ y. value_keeps (ElementValue (towards mesh x y))))))
-    keeps_meaning mesh environment (Neg place arg) h = keeps_then leads (keeps_meaning mesh environment arg h) (λ v. keeps_negated place v)
-    keeps_meaning mesh environment (Not place arg) h = keeps_then leads (keeps_meaning mesh environment arg h) (λ v. keeps_denied v)
+    keeps_meaning mesh environment (Neg place arg) h = keeps_then leads (keeps_meaning mesh environment arg h) (λ v. keeps_negation place v)
+    keeps_meaning mesh environment (Not place arg) h = keeps_then leads (keeps_meaning mesh environment arg h) (λ v. keeps_complement v)
     keeps_meaning mesh environment (Chain level first links) h =
         keeps_then leads (keeps_meaning mesh environment first (λ a t. h a (inl t))) (λ v. keeps_links mesh environment v links (λ a t. h a (inr t)))
     keeps_meaning mesh environment (Compare place rel left right) h =
         keeps_then leads (keeps_meaning mesh environment left (λ a t. h a (inl t)))
-        (λ v. keeps_then leads (keeps_meaning mesh environment right (λ a t. h a (inr t))) (λ w. keeps_compared rel v w))
+        (λ v. keeps_then leads (keeps_meaning mesh environment right (λ a t. h a (inr t))) (λ w. keeps_comparison rel v w))
 
     keeps_links : (mesh : MeshLists) (environment : Environment) (v : Value) (links : Links) → Only (λ a. LinksTouch environment a links)
         → Preserves R (links_meaning mesh environment v links)
     keeps_links mesh environment v no_links h = record { preserved = k.same }
     keeps_links mesh environment v (link sign place arg rest) h =
         keeps_then leads (keeps_if (is_decided sign v) (value_keeps v)
-        (keeps_then leads (keeps_meaning mesh environment arg (λ a t. h a (inl t))) (λ w. keeps_operated sign place v w)))
+        (keeps_then leads (keeps_meaning mesh environment arg (λ a t. h a (inl t))) (λ w. keeps_operator_result sign place v w)))
         (λ u. keeps_links mesh environment u rest (λ a t. h a (inr t)))
 
   pub keeps_number_in : (mesh : MeshLists) (environment : Environment) (e : Expression) → Only (λ a. Touches environment a e) → Preserves R (number_in mesh environment e)
@@ -222,30 +222,30 @@ module _ {P : Access → Type 0} {R : EvaluationState → EvaluationState → Ty
   keeps_spot spot how n m (Some old) h e = k.spot_set spot how n old m h e
   keeps_spot spot how n m None h e = k.same m
 
-  keeps_field_assigned : (place : Place) (how : How) (global : Option Binding) (n : ℤ) (x : Option Elem)
+  keeps_assign_field : (place : Place) (how : How) (global : Option Binding) (n : ℤ) (x : Option Elem)
       → Only (TouchesField global (mode_by how)) → Preserves R (assign_field place how global n x)
-  keeps_field_assigned place how (Some (FieldName number kind)) n (Some x) h =
+  keeps_assign_field place how (Some (FieldName number kind)) n (Some x) h =
       record { preserved = λ m. keeps_spot (spot_of number x) how n m (value_in m.state.fields (spot_of number x)) (h _ refl) refl }
-  keeps_field_assigned place how (Some (FieldName number kind)) n None h = record { preserved = k.same }
-  keeps_field_assigned place how _ n x h = record { preserved = k.same }
+  keeps_assign_field place how (Some (FieldName number kind)) n None h = record { preserved = k.same }
+  keeps_assign_field place how _ n x h = record { preserved = k.same }
 
-  keeps_scalar_assigned : (how : How) (n : ℤ) (scalar : ℕ) (value : Option ℤ) → P (OfScalar scalar, mode_by how) → Preserves R (assign_scalar how n scalar value)
-  keeps_scalar_assigned how n scalar (Some old) h = record { preserved = λ m. k.assign_main_scalar how n scalar old m h }
-  keeps_scalar_assigned how n scalar None h = record { preserved = k.same }
+  keeps_assign_scalar : (how : How) (n : ℤ) (scalar : ℕ) (value : Option ℤ) → P (OfScalar scalar, mode_by how) → Preserves R (assign_scalar how n scalar value)
+  keeps_assign_scalar how n scalar (Some old) h = record { preserved = λ m. k.scalar_assignment how n scalar old m h }
+  keeps_assign_scalar how n scalar None h = record { preserved = k.same }
 
-  keeps_global_assigned : (how : How) (n : ℤ) (global : Option Binding) → Only (TouchesScalar global (mode_by how)) → Preserves R (assign_global how n global)
-  keeps_global_assigned how n (Some (ScalarName number)) h =
-      record { preserved = λ m. (keeps_scalar_assigned how n number (scalar_value m.state number) (h _ refl)).preserved m }
-  keeps_global_assigned how n _ h = record { preserved = k.same }
+  keeps_assign_global : (how : How) (n : ℤ) (global : Option Binding) → Only (TouchesScalar global (mode_by how)) → Preserves R (assign_global how n global)
+  keeps_assign_global how n (Some (ScalarName number)) h =
+      record { preserved = λ m. (keeps_assign_scalar how n number (scalar_value m.state number) (h _ refl)).preserved m }
+  keeps_assign_global how n _ h = record { preserved = k.same }
 
-  keeps_name_assigned : (name : List ℕ) (how : How) (n : ℤ) (value : Option ℤ) (global : Option Binding)
+  keeps_assign_name : (name : List ℕ) (how : How) (n : ℤ) (value : Option ℤ) (global : Option Binding)
       → Only (TouchesScalar global (mode_by how)) → Preserves R (assign_name name how n value global)
-  keeps_name_assigned name how n (Some old) global h = record { preserved = k.local_set name (assigned_value how old n) }
-  keeps_name_assigned name how n None global h = keeps_global_assigned how n global h
+  keeps_assign_name name how n (Some old) global h = record { preserved = k.local_set name (assigned_value how old n) }
+  keeps_assign_name name how n None global h = keeps_assign_global how n global h
 
   local_assigned_keeps : (environment : Environment) (name : List ℕ) (how : How) (n : ℤ) → Only (TouchesScalar (binding_of environment name) (mode_by how))
       → Preserves R (λ m. assign_name name how n (local_bound_to m name) (binding_of environment name) m)
-  local_assigned_keeps environment name how n h = record { preserved = λ m. (keeps_name_assigned name how n (local_bound_to m name) (binding_of environment name) h).preserved m }
+  local_assigned_keeps environment name how n h = record { preserved = λ m. (keeps_assign_name name how n (local_bound_to m name) (binding_of environment name) h).preserved m }
 
   local_keeps : (name : List ℕ) (n : ℤ) → Preserves R (modify (with_local name n))
   local_keeps name n = record { preserved = k.local name n }
@@ -263,7 +263,7 @@ module _ {P : Access → Type 0} {R : EvaluationState → EvaluationState → Ty
 
   keeps_members : (mesh : MeshLists) (place : Place) {body : Option Elem → EvaluationState → Outcome EvaluationState (Unit {0})} → ((x : Option Elem) → Preserves R (body x))
       → (set : Elem → List Elem) (x : Option Elem) → Preserves R (for_each_member mesh place body set x)
-  keeps_members mesh place h set (Some x) = keeps_each leads (λ member. keeps_in_block (h (Some member))) (set x)
+  keeps_members mesh place h set (Some x) = keeps_for_each leads (λ member. keeps_in_block (h (Some member))) (set x)
   keeps_members mesh place h set None = record { preserved = k.same }
 
   spent_keeps : (place : Place) → Preserves R (trap {A = Unit {0}} Spent place)
@@ -278,7 +278,7 @@ module _ {P : Access → Type 0} {R : EvaluationState → EvaluationState → Ty
     keeps_statement mesh environment (Assign place name (Some target) how set_to) h =
         keeps_then leads (keeps_number_in mesh environment set_to (λ a t. h a (inr t)))
         (λ n. keeps_then leads (keeps_element_in mesh environment target (λ a t. h a (inl (inl t))))
-        (λ x. keeps_field_assigned place how (binding_of environment name) n x (λ a t. h a (inl (inr t)))))
+        (λ x. keeps_assign_field place how (binding_of environment name) n x (λ a t. h a (inl (inr t)))))
     keeps_statement mesh environment (Assign place name None how set_to) h =
         keeps_then leads (keeps_number_in mesh environment set_to (λ a t. h a (inr t))) (λ n. local_assigned_keeps environment name how n (λ a t. h a (inl t)))
     keeps_statement mesh environment (If place test first second has_else) h =

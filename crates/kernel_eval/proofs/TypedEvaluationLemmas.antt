@@ -1,4 +1,4 @@
--- What a typed expression, statement or body comes to where its names fit: it ends, done or by a trap.
+-- A typed expression, statement or body ends, done or by a trap, from a state that fits its environment.
 use Rattle.std.proofs.Common.{◌≡◌, ◌≢◌, ◌<◌, ℕ, zero, suc, Bool, true, false, List, [], ◌∷◌, refl, subst, inl, inr, arith, ne_eqb}
 use Rattle.std.proofs.lemmas.Bool.{cases_Bool, lt-ltb}
 use Rattle.std.proofs.lemmas.List.{length-map}
@@ -43,21 +43,21 @@ use Rattle.kernel_eval.proofs.ComputationLemmas.{keeps_then}
 use Rattle.kernel_eval.proofs.PreservationLemmas.{leads, element_keeps, keeps_body}
 use Rattle.kernel_eval.proofs.ShapeLemmas.{still_fits, same_locals, HasShape, like_itself, same_names, local_assigned, spot_set, reduced, with_turns, KeepsShape, block_shape_preserved, shapes_kept}
 
--- DOING ENDS: from what stands before, with an answer and what stands afterwards, or by a trap
+-- COMPUTATIONS END: from a state with F, with a value and a state afterwards, or by a trap
 abbrev pub EndsIn : {S A : Type 0} → (A → Type 0) → (S → Type 0) → S → Result A Stop → Type 0
 EndsIn V G after (Ok a) = V a × G after
 EndsIn V G after (Err (Trapped trap)) = Unit {0}
 EndsIn V G after (Err NoMeaning) = ⊥
 
-abbrev pub Comes : {S A : Type 0} → (A → Type 0) → (S → Type 0) → Outcome S A → Type 0
-Comes V G outcome = EndsIn V G outcome.after outcome.answer
+abbrev pub OutcomeEnds : {S A : Type 0} → (A → Type 0) → (S → Type 0) → Outcome S A → Type 0
+OutcomeEnds V G outcome = EndsIn V G outcome.after outcome.answer
 
 pub record Ends {S A : Type 0} (F : S → Type 0) (V : A → Type 0) (G : S → Type 0) (computation : S → Outcome S A) : Type 0 where
-  pub ends : (s : S) → F s → Comes V G (computation s)
+  pub ends : (s : S) → F s → OutcomeEnds V G (computation s)
 
 ends_continue : {S A B : Type 0} {V : A → Type 0} {W : B → Type 0} {G H : S → Type 0} {next : A → S → Outcome S B}
     → ((a : A) → V a → Ends G W H (next a)) → (s : S) (answer : Result A Stop) → EndsIn V G s answer
-    → Comes W H (continue_with next s answer)
+    → OutcomeEnds W H (continue_with next s answer)
 ends_continue h s (Ok a) e = (h a e.0).ends s e.1
 ends_continue h s (Err (Trapped trap)) e = tt
 ends_continue h s (Err NoMeaning) e = e
@@ -81,7 +81,7 @@ data ValueFits (mesh : MeshLists) : ValueType → Value → Type 0 where
   TruthFits : (b : Bool) → ValueFits mesh TruthType (TruthValue b)
   ElementFits : {kind : Kind} (x : Option Elem) → IsNilOrElement mesh kind x → ValueFits mesh (ElementType kind) (ElementValue x)
 
--- WHAT A NAME STANDS FOR in a moment, by what it stands for here and in the main program
+-- THE DENOTATION OF A NAME in an evaluation state, by its binding in the body and in the main program
 abbrev NameFits : MeshLists → Option Binding → Bool → Option (Option Elem) → Option Binding → Type 0
 NameFits mesh global is_local element (Some LocalName) = is_local ≡ true
 NameFits mesh global is_local element (Some (ElementName kind)) = (is_local ≡ false) × (x : Option Elem) × (element ≡ Some x) × IsNilOrElement mesh kind x
@@ -93,7 +93,7 @@ pub record EvaluationFits (mesh : MeshLists) (globals environment : Environment)
   pub state_fits : StateFits mesh globals m.state
   pub name_fits : (name : List ℕ) → NameFits mesh (binding_of globals name) (is_some (local_bound_to m name)) (element_bound_to m name) (binding_of environment name)
 
--- what is there
+-- the values of fields, scalars and local numbers
 some_is : {A : Type 0} (o : Option A) → is_some o ≡ true → (a : A) × (o ≡ Some a)
 some_is None e = absurd cc
 some_is (Some a) e = (a, refl)
@@ -125,15 +125,15 @@ module _ (mesh : MeshLists) (globals : Environment) where
     go None e = absurd cc
     go (Some values) e = let long : length values ≡ count mesh kind = cc in got values x.id (omega (arith, long, l))
 
-  held_value : (s : State) (number : ℕ) (kind : Kind) (x : Elem) → EntryFits mesh s (FieldName number kind) → x.id < count mesh kind
+  spot_value_is : (s : State) (number : ℕ) (kind : Kind) (x : Elem) → EntryFits mesh s (FieldName number kind) → x.id < count mesh kind
       → (n : ℤ) × (spot_value mesh s (spot_of number x) ≡ Some n)
-  held_value s number kind x (inr live) l = rw live.0 (live_value s number kind x live l)
-  held_value s number kind x (inl (inl is)) l =
+  spot_value_is s number kind x (inr live) l = rw live.0 (live_value s number kind x live l)
+  spot_value_is s number kind x (inl (inl is)) l =
       let other : number ≢ 4 = omega (arith, is.0) in
       let l' : x.id < count mesh Vertex = subst (λ kind. x.id < count mesh kind) is.1 l in
       let p = got mesh.points x.id (omega (arith, vertex_count mesh, l')) in
       rw (below_six number kind (inl is), ne_eqb number 4 other, p.1) (got (p.0.x ∷ p.0.y ∷ p.0.z ∷ p.0.mark ∷ []) number is.0)
-  held_value s number kind x (inl (inr is)) l =
+  spot_value_is s number kind x (inl (inr is)) l =
       let l' : x.id < count mesh Cell = subst (λ kind. x.id < count mesh kind) is.1 l in
       let cell = got mesh.cells x.id (omega (arith, length-map mesh.cells (λ cell. cell.corners), l')) in
       rw (is.0, cell.1) (cell.0.region, refl)
@@ -156,8 +156,8 @@ module _ (mesh : MeshLists) (globals : Environment) where
     abbrev EndsWithType : ValueType → Computation EvaluationState Value → Type 0
     EndsWithType type computation = Ends Fits (ValueFits mesh type) Fits computation
 
-    given_value : {type : ValueType} {v : Value} → ValueFits mesh type v → EndsWithType type (pure v)
-    given_value h = record { ends = λ m f. (h, f) }
+    pure_ends : {type : ValueType} {v : Value} → ValueFits mesh type v → EndsWithType type (pure v)
+    pure_ends h = record { ends = λ m f. (h, f) }
 
     number_fits : {v : Value} → ValueFits mesh NumberType v → Ends Fits (λ n. Unit {0}) Fits (number_of v)
     number_fits (NumberFits n) = record { ends = λ m f. (tt, f) }
@@ -168,41 +168,41 @@ module _ (mesh : MeshLists) (globals : Environment) where
     element_fits : {kind : Kind} {v : Value} → ValueFits mesh (ElementType kind) v → Ends Fits (IsNilOrElement mesh kind) Fits (element_of v)
     element_fits (ElementFits x of) = record { ends = λ m f. (of, f) }
 
-    fitting_ends : (place : Place) (n : ℤ) → EndsWithType NumberType (checked_number place n)
-    fitting_ends place n = ends_if {this = pure (NumberValue n)} {other = trap Overflow place} (is_in_range n) (given_value (NumberFits n)) (ends_by_trap Overflow place)
+    checked_number_ends : (place : Place) (n : ℤ) → EndsWithType NumberType (checked_number place n)
+    checked_number_ends place n = ends_if {this = pure (NumberValue n)} {other = trap Overflow place} (is_in_range n) (pure_ends (NumberFits n)) (ends_by_trap Overflow place)
 
-    divided_ends : (place : Place) (b : ℤ) {by : Computation EvaluationState Value} → EndsWithType NumberType by → EndsWithType NumberType (checked_division place b by)
-    divided_ends place b h = ends_if {this = trap ZeroDivide place} (int_le b (pos 0) && int_le (pos 0) b) (ends_by_trap ZeroDivide place) h
+    checked_division_ends : (place : Place) (b : ℤ) {by : Computation EvaluationState Value} → EndsWithType NumberType by → EndsWithType NumberType (checked_division place b by)
+    checked_division_ends place b h = ends_if {this = trap ZeroDivide place} (int_le b (pos 0) && int_le (pos 0) b) (ends_by_trap ZeroDivide place) h
 
-    operated_ends : (sign : Sign) (place : Place) {v w : Value} → ValueFits mesh (operand_type sign) v → ValueFits mesh (operand_type sign) w
+    operator_result_ends : (sign : Sign) (place : Place) {v w : Value} → ValueFits mesh (operand_type sign) v → ValueFits mesh (operand_type sign) w
         → EndsWithType (operand_type sign) (operator_result sign place v w)
-    operated_ends Or place (TruthFits a) (TruthFits b) = given_value (TruthFits (a || b))
-    operated_ends And place (TruthFits a) (TruthFits b) = given_value (TruthFits (a && b))
-    operated_ends Plus place (NumberFits a) (NumberFits b) = fitting_ends place (a +ℤ b)
-    operated_ends Minus place (NumberFits a) (NumberFits b) = fitting_ends place (a -ℤ b)
-    operated_ends Times place (NumberFits a) (NumberFits b) = fitting_ends place (a *ℤ b)
-    operated_ends Over place (NumberFits a) (NumberFits b) = divided_ends place b (fitting_ends place (int_div a b))
-    operated_ends Rest place (NumberFits a) (NumberFits b) = divided_ends place b (given_value (NumberFits (int_rem a b)))
+    operator_result_ends Or place (TruthFits a) (TruthFits b) = pure_ends (TruthFits (a || b))
+    operator_result_ends And place (TruthFits a) (TruthFits b) = pure_ends (TruthFits (a && b))
+    operator_result_ends Plus place (NumberFits a) (NumberFits b) = checked_number_ends place (a +ℤ b)
+    operator_result_ends Minus place (NumberFits a) (NumberFits b) = checked_number_ends place (a -ℤ b)
+    operator_result_ends Times place (NumberFits a) (NumberFits b) = checked_number_ends place (a *ℤ b)
+    operator_result_ends Over place (NumberFits a) (NumberFits b) = checked_division_ends place b (checked_number_ends place (int_div a b))
+    operator_result_ends Rest place (NumberFits a) (NumberFits b) = checked_division_ends place b (pure_ends (NumberFits (int_rem a b)))
 
-    operated_fits : {type : ValueType} (sign : Sign) (place : Place) → operand_type sign ≡ type → {v w : Value} → ValueFits mesh type v → ValueFits mesh type w
+    operator_result_fits : {type : ValueType} (sign : Sign) (place : Place) → operand_type sign ≡ type → {v w : Value} → ValueFits mesh type v → ValueFits mesh type w
         → EndsWithType type (operator_result sign place v w)
-    operated_fits sign place is {v} {w} h g =
-        subst (λ type. ValueFits mesh type v → ValueFits mesh type w → EndsWithType type (operator_result sign place v w)) is (operated_ends sign place) h g
+    operator_result_fits sign place is {v} {w} h g =
+        subst (λ type. ValueFits mesh type v → ValueFits mesh type w → EndsWithType type (operator_result sign place v w)) is (operator_result_ends sign place) h g
 
-    negated_ends : (place : Place) {v : Value} → ValueFits mesh NumberType v → EndsWithType NumberType (negation place v)
-    negated_ends place (NumberFits n) = fitting_ends place (neg_ℤ n)
+    negation_ends : (place : Place) {v : Value} → ValueFits mesh NumberType v → EndsWithType NumberType (negation place v)
+    negation_ends place (NumberFits n) = checked_number_ends place (neg_ℤ n)
 
-    denied_ends : {v : Value} → ValueFits mesh TruthType v → EndsWithType TruthType (complement v)
-    denied_ends (TruthFits b) = given_value (TruthFits (not b))
+    complement_ends : {v : Value} → ValueFits mesh TruthType v → EndsWithType TruthType (complement v)
+    complement_ends (TruthFits b) = pure_ends (TruthFits (not b))
 
-    numbers_compared : (rel : Rel) {v w : Value} → ValueFits mesh NumberType v → ValueFits mesh NumberType w → EndsWithType TruthType (comparison_result rel v w)
-    numbers_compared rel (NumberFits a) (NumberFits b) = given_value (TruthFits (holds rel a b))
+    number_comparison_ends : (rel : Rel) {v w : Value} → ValueFits mesh NumberType v → ValueFits mesh NumberType w → EndsWithType TruthType (comparison_result rel v w)
+    number_comparison_ends rel (NumberFits a) (NumberFits b) = pure_ends (TruthFits (holds rel a b))
 
-    elements_compared : {kind : Kind} (rel : Rel) → is_sameness rel ≡ true → {v w : Value} → ValueFits mesh (ElementType kind) v → ValueFits mesh (ElementType kind) w
+    element_comparison_ends : {kind : Kind} (rel : Rel) → is_sameness rel ≡ true → {v w : Value} → ValueFits mesh (ElementType kind) v → ValueFits mesh (ElementType kind) w
         → EndsWithType TruthType (comparison_result rel v w)
-    elements_compared Same is (ElementFits x a) (ElementFits y b) = given_value (TruthFits (same x y))
-    elements_compared Other is (ElementFits x a) (ElementFits y b) = given_value (TruthFits (not (same x y)))
-    elements_compared _ is a b = absurd cc
+    element_comparison_ends Same is (ElementFits x a) (ElementFits y b) = pure_ends (TruthFits (same x y))
+    element_comparison_ends Other is (ElementFits x a) (ElementFits y b) = pure_ends (TruthFits (not (same x y)))
+    element_comparison_ends _ is a b = absurd cc
 
     -- calls
     flipped : (kind : Kind) (x : Option Elem) → IsNilOrElement mesh kind x → IsNilOrElement mesh kind (flip x)
@@ -210,7 +210,7 @@ module _ (mesh : MeshLists) (globals : Environment) where
     flipped kind (Some x) of = of
 
     id_ends : (place : Place) (x : Option Elem) → EndsWithType NumberType (id_result place x)
-    id_ends place (Some x) = given_value (NumberFits (pos x.id))
+    id_ends place (Some x) = pure_ends (NumberFits (pos x.id))
     id_ends place None = ends_by_trap NilElement place
 
     abbrev CallEnds : Place → Fun → Option Elem → Option ValueType → Type 0
@@ -219,16 +219,16 @@ module _ (mesh : MeshLists) (globals : Environment) where
 
     call_ends : (place : Place) (fun : Fun) (kind : Kind) (x : Option Elem) → IsNilOrElement mesh kind x → CallEnds place fun x (call_type fun kind)
     call_ends place Head Edge x of =
-        given_value (ElementFits (head mesh x) (nil_or_result mesh Edge Vertex (head_of mesh) (λ x. end_of mesh x (cond x.flipped 0 1)) x of))
+        pure_ends (ElementFits (head mesh x) (nil_or_result mesh Edge Vertex (head_of mesh) (λ x. end_of mesh x (cond x.flipped 0 1)) x of))
     call_ends place Tail Edge x of =
-        given_value (ElementFits (tail mesh x) (nil_or_result mesh Edge Vertex (tail_of mesh) (λ x. end_of mesh x (cond x.flipped 1 0)) x of))
+        pure_ends (ElementFits (tail mesh x) (nil_or_result mesh Edge Vertex (tail_of mesh) (λ x. end_of mesh x (cond x.flipped 1 0)) x of))
     call_ends place Inside Face x of =
-        given_value (ElementFits (inside mesh x) (nil_or_result mesh Face Cell (inside_of mesh) (λ x is. side_of mesh x (cond x.flipped 1 0)) x of))
+        pure_ends (ElementFits (inside mesh x) (nil_or_result mesh Face Cell (inside_of mesh) (λ x is. side_of mesh x (cond x.flipped 1 0)) x of))
     call_ends place Outside Face x of =
-        given_value (ElementFits (outside mesh x) (nil_or_result mesh Face Cell (outside_of mesh) (λ x is. side_of mesh x (cond x.flipped 0 1)) x of))
-    call_ends place Flip Edge x of = given_value (ElementFits (flip x) (flipped Edge x of))
-    call_ends place Flip Face x of = given_value (ElementFits (flip x) (flipped Face x of))
-    call_ends place Valid kind x of = given_value (TruthFits (valid x))
+        pure_ends (ElementFits (outside mesh x) (nil_or_result mesh Face Cell (outside_of mesh) (λ x is. side_of mesh x (cond x.flipped 0 1)) x of))
+    call_ends place Flip Edge x of = pure_ends (ElementFits (flip x) (flipped Edge x of))
+    call_ends place Flip Face x of = pure_ends (ElementFits (flip x) (flipped Face x of))
+    call_ends place Valid kind x of = pure_ends (TruthFits (valid x))
     call_ends place Id kind x of = id_ends place x
     call_ends place _ _ x of = tt
 
@@ -244,10 +244,10 @@ module _ (mesh : MeshLists) (globals : Environment) where
 
     -- fields
     field_read_ends : (place : Place) (number : ℕ) (kind : Kind) (x : Option Elem) (m : EvaluationState) → IsNilOrElement mesh kind x → Fits m
-        → EntryFits mesh m.state (FieldName number kind) → Comes (ValueFits mesh NumberType) Fits (field_read mesh place (Some (FieldName number kind)) x m)
+        → EntryFits mesh m.state (FieldName number kind) → OutcomeEnds (ValueFits mesh NumberType) Fits (field_read mesh place (Some (FieldName number kind)) x m)
     field_read_ends place number kind None m of f is = tt
     field_read_ends place number kind (Some x) m of f is =
-        let n = held_value m.state number kind x is of.1 in
+        let n = spot_value_is m.state number kind x is of.1 in
         rw n.1 (NumberFits n.0, fits_like m _ (same_names m _ (like_itself m.state) refl refl) f)
 
     field_ends : (place : Place) (name : List ℕ) (number : ℕ) (kind : Kind) (x : Option Elem) → binding_of environment name ≡ Some (FieldName number kind) → IsNilOrElement mesh kind x
@@ -260,7 +260,7 @@ module _ (mesh : MeshLists) (globals : Environment) where
 
     mutual
       means : {e : Expression} {type : ValueType} → HasType environment e type → EndsWithType type (meaning mesh globals e)
-      means (IsNumber place n) = given_value (NumberFits n)
+      means (IsNumber place n) = pure_ends (NumberFits n)
       means (IsScalar {number = number} place name is) = record {
         ends = λ m f.
             let h = fits_at f name is in
@@ -279,18 +279,18 @@ module _ (mesh : MeshLists) (globals : Environment) where
           ends_then (means h) (λ v fits. ends_then (element_fits fits) (λ x of. subst (CallEnds place fun x) is (call_ends place fun kind x of)))
       means (IsTowards {kind = kind} place h to can) =
           ends_then (means h) (λ v fits. ends_then (element_fits fits) (λ x of. ends_then (means to) (λ w fits'.
-          ends_then (element_fits fits') (λ y of'. given_value (ElementFits (towards mesh x y) (pointed kind x y of))))))
-      means (IsNeg place h) = ends_then (means h) (λ v fits. negated_ends place fits)
-      means (IsNot place h) = ends_then (means h) (λ v fits. denied_ends fits)
+          ends_then (element_fits fits') (λ y of'. pure_ends (ElementFits (towards mesh x y) (pointed kind x y of))))))
+      means (IsNeg place h) = ends_then (means h) (λ v fits. negation_ends place fits)
+      means (IsNot place h) = ends_then (means h) (λ v fits. complement_ends fits)
       means (IsChain level h rest) = ends_then (means h) (λ v fits. links_mean fits rest)
-      means (AreNumbers place rel h to) = ends_then (means h) (λ v fits. ends_then (means to) (λ w fits'. numbers_compared rel fits fits'))
-      means (AreElements place rel h to same) = ends_then (means h) (λ v fits. ends_then (means to) (λ w fits'. elements_compared rel same fits fits'))
+      means (AreNumbers place rel h to) = ends_then (means h) (λ v fits. ends_then (means to) (λ w fits'. number_comparison_ends rel fits fits'))
+      means (AreElements place rel h to same) = ends_then (means h) (λ v fits. ends_then (means to) (λ w fits'. element_comparison_ends rel same fits fits'))
 
       links_mean : {v : Value} {type : ValueType} {links : Links} → ValueFits mesh type v → FollowsType environment type links
           → EndsWithType type (links_meaning mesh globals v links)
-      links_mean fits (NoLinks type) = given_value fits
+      links_mean fits (NoLinks type) = pure_ends fits
       links_mean {v = v} fits (OneLink sign place is h rest) =
-          ends_then (ends_if (is_decided sign v) (given_value fits) (ends_then (means h) (λ w fits'. operated_fits sign place is fits fits')))
+          ends_then (ends_if (is_decided sign v) (pure_ends fits) (ends_then (means h) (λ w fits'. operator_result_fits sign place is fits fits')))
           (λ u fits'. links_mean fits' rest)
 
     pub number_ends : {e : Expression} → HasType environment e NumberType → Ends Fits (λ n. Unit {0}) Fits (number_in mesh globals e)
@@ -303,10 +303,10 @@ module _ (mesh : MeshLists) (globals : Environment) where
     element_ends kind h = ends_then (means h) (λ v fits. element_fits fits)
 
     -- STATEMENTS
-    abbrev Does : Environment → Computation EvaluationState (Unit {0}) → Type 0
-    Does behind computation = Ends Fits (λ done. Unit {0}) (EvaluationFits mesh globals behind) computation
+    abbrev EndsInEnvironment : Environment → Computation EvaluationState (Unit {0}) → Type 0
+    EndsInEnvironment after_environment computation = Ends Fits (λ done. Unit {0}) (EvaluationFits mesh globals after_environment) computation
 
-    local_ends : (name : List ℕ) (n : ℤ) → Does ((name, LocalName) ∷ environment) (modify (with_local name n))
+    local_ends : (name : List ℕ) (n : ℤ) → EndsInEnvironment ((name, LocalName) ∷ environment) (modify (with_local name n))
     local_ends name n = record {
       ends = λ m f. (
         tt,
@@ -321,7 +321,7 @@ module _ (mesh : MeshLists) (globals : Environment) where
     }
 
     named_ends : (name : List ℕ) (kind : Kind) (x : Option Elem) → IsNew environment name → IsNilOrElement mesh kind x
-        → Does ((name, ElementName kind) ∷ environment) (modify (with_element name x))
+        → EndsInEnvironment ((name, ElementName kind) ∷ environment) (modify (with_element name x))
     named_ends name kind x new of = record {
       ends = λ m f. (
         tt,
@@ -337,14 +337,14 @@ module _ (mesh : MeshLists) (globals : Environment) where
 
     -- assignments
     spot_set_ends : (place : Place) (how : How) (number : ℕ) (kind : Kind) (n : ℤ) (x : Option Elem) (m : EvaluationState) → IsNilOrElement mesh kind x → Fits m
-        → IsLive mesh m.state number kind → Comes (λ done. Unit {0}) Fits (assign_field place how (Some (FieldName number kind)) n x m)
+        → IsLive mesh m.state number kind → OutcomeEnds (λ done. Unit {0}) Fits (assign_field place how (Some (FieldName number kind)) n x m)
     spot_set_ends place how number kind n None m of f live = tt
     spot_set_ends place how number kind n (Some x) m of f live =
         let old = live_value m.state number kind x live of.1 in rw old.1 (tt, fits_like m _ (spot_set (spot_of number x) how n old.0 m) f)
 
     field_set_ends : (place : Place) (name : List ℕ) (how : How) (number : ℕ) (kind : Kind) (n : ℤ) (x : Option Elem)
         → binding_of environment name ≡ Some (FieldName number kind) → is_built_in number ≡ false → IsNilOrElement mesh kind x
-        → Does environment (assign_field place how (binding_of globals name) n x)
+        → EndsInEnvironment environment (assign_field place how (binding_of globals name) n x)
     field_set_ends place name how number kind n x is own of = record {
       ends = λ m f.
           let global = (fits_at f name is).1 in
@@ -352,7 +352,7 @@ module _ (mesh : MeshLists) (globals : Environment) where
     }
 
     scalar_set_ends : (name : List ℕ) (how : How) (n : ℤ) (number : ℕ) → binding_of environment name ≡ Some (ScalarName number)
-        → Does environment (λ m. assign_name name how n (local_bound_to m name) (binding_of globals name) m)
+        → EndsInEnvironment environment (λ m. assign_name name how n (local_bound_to m name) (binding_of globals name) m)
     scalar_set_ends name how n number is = record {
       ends = λ m f.
           let h = fits_at f name is in
@@ -361,7 +361,7 @@ module _ (mesh : MeshLists) (globals : Environment) where
     }
 
     local_set_ends : (name : List ℕ) (how : How) (n : ℤ) → binding_of environment name ≡ Some LocalName
-        → Does environment (λ m. assign_name name how n (local_bound_to m name) (binding_of globals name) m)
+        → EndsInEnvironment environment (λ m. assign_name name how n (local_bound_to m name) (binding_of globals name) m)
     local_set_ends name how n is = record {
       ends = λ m f.
           let old = some_is (local_bound_to m name) (fits_at f name is) in
@@ -370,52 +370,52 @@ module _ (mesh : MeshLists) (globals : Environment) where
 
     -- blocks and loops
     after_block_ends : (before s : EvaluationState) → Fits before → KeepsShape before s → (answer : Result (Unit {0}) Stop)
-        → EndsIn (λ done. Unit {0}) (λ m. Unit {0}) s answer → Comes (λ done. Unit {0}) Fits (continue_with (λ done. modify (after_block before)) s answer)
+        → EndsIn (λ done. Unit {0}) (λ m. Unit {0}) s answer → OutcomeEnds (λ done. Unit {0}) Fits (continue_with (λ done. modify (after_block before)) s answer)
     after_block_ends before s f r (Ok done) e = (tt, fits_like before _ (block_shape_preserved before s r) f)
     after_block_ends before s f r (Err (Trapped trap)) e = tt
     after_block_ends before s f r (Err NoMeaning) e = e
 
     block_ends : {body : Computation EvaluationState (Unit {0})} → Preserves KeepsShape body → Ends Fits (λ done. Unit {0}) (λ m. Unit {0}) body
-        → Does environment (in_block body)
+        → EndsInEnvironment environment (in_block body)
     block_ends {body = body} k h = record { ends = λ m f. after_block_ends m (body m).after f (k.preserved m) (body m).answer (h.ends m f) }
 
-    nothing_ends : Does environment skip
-    nothing_ends = record { ends = λ m f. (tt, f) }
+    skip_ends : EndsInEnvironment environment skip
+    skip_ends = record { ends = λ m f. (tt, f) }
 
-    turn_taken : (place : Place) {body : Computation EvaluationState (Unit {0})} → Does environment body → (left : ℕ) (m : EvaluationState) → Fits m
-        → Comes (λ done. Unit {0}) Fits (take_turn evaluation_turns (trap Spent place) body left m)
-    turn_taken place h zero m f = tt
-    turn_taken place h (suc n) m f = h.ends _ (fits_like m _ (with_turns n m) f)
+    take_turn_ends : (place : Place) {body : Computation EvaluationState (Unit {0})} → EndsInEnvironment environment body → (left : ℕ) (m : EvaluationState) → Fits m
+        → OutcomeEnds (λ done. Unit {0}) Fits (take_turn evaluation_turns (trap Spent place) body left m)
+    take_turn_ends place h zero m f = tt
+    take_turn_ends place h (suc n) m f = h.ends _ (fits_like m _ (with_turns n m) f)
 
-    turn_ends : (place : Place) {body : Computation EvaluationState (Unit {0})} → Does environment body
-        → Does environment (λ m. take_turn evaluation_turns (trap Spent place) body (evaluation_turns.remaining m) m)
-    turn_ends place h = record { ends = λ m f. turn_taken place h m.state.turns m f }
+    turn_ends : (place : Place) {body : Computation EvaluationState (Unit {0})} → EndsInEnvironment environment body
+        → EndsInEnvironment environment (λ m. take_turn evaluation_turns (trap Spent place) body (evaluation_turns.remaining m) m)
+    turn_ends place h = record { ends = λ m f. take_turn_ends place h m.state.turns m f }
 
     within_ends : (place : Place) {test : Computation EvaluationState Bool} {body : Computation EvaluationState (Unit {0})} → Ends Fits (λ b. Unit {0}) Fits test
-        → Does environment body → (bound : ℕ) → Does environment (loop_within evaluation_turns (trap Spent place) test body bound)
-    within_ends place t h zero = ends_then t (λ b any. ends_if b (ends_by_trap Spent place) nothing_ends)
+        → EndsInEnvironment environment body → (bound : ℕ) → EndsInEnvironment environment (loop_within evaluation_turns (trap Spent place) test body bound)
+    within_ends place t h zero = ends_then t (λ b any. ends_if b (ends_by_trap Spent place) skip_ends)
     within_ends place t h (suc n) =
-        ends_then t (λ b any. ends_if b (ends_then (turn_ends place h) (λ done any. within_ends place t h n)) nothing_ends)
+        ends_then t (λ b any. ends_if b (ends_then (turn_ends place h) (λ done any. within_ends place t h n)) skip_ends)
 
     loop_ends : (place : Place) {test : Computation EvaluationState Bool} {body : Computation EvaluationState (Unit {0})} → Ends Fits (λ b. Unit {0}) Fits test
-        → Does environment body → Does environment (loop evaluation_turns (trap Spent place) test body)
+        → EndsInEnvironment environment body → EndsInEnvironment environment (loop evaluation_turns (trap Spent place) test body)
     loop_ends place t h = record { ends = λ m f. (within_ends place t h m.state.turns).ends m f }
 
-    each_ends : (kind : Kind) {computation : Elem → Computation EvaluationState (Unit {0})} → ((x : Elem) → IsElement mesh kind x → Does environment (computation x))
-        → (xs : List Elem) → AllByRecursion (IsElement mesh kind) xs → Does environment (for_each computation xs)
-    each_ends kind h [] all = nothing_ends
-    each_ends kind h (x ∷ xs) all = ends_then (h x all.0) (λ done any. each_ends kind h xs all.1)
+    for_each_member_ends : (kind : Kind) {computation : Elem → Computation EvaluationState (Unit {0})} → ((x : Elem) → IsElement mesh kind x → EndsInEnvironment environment (computation x))
+        → (xs : List Elem) → AllByRecursion (IsElement mesh kind) xs → EndsInEnvironment environment (for_each computation xs)
+    for_each_member_ends kind h [] all = skip_ends
+    for_each_member_ends kind h (x ∷ xs) all = ends_then (h x all.0) (λ done any. for_each_member_ends kind h xs all.1)
 
   module _ (is_mesh : IsMesh (length mesh.points) (corner_lists mesh)) where
     can_visit : (kind : Kind) (set : SetName) (x : Elem) → IsElement mesh kind x → has_set kind set ≡ true → IsSetOperand mesh set x
     can_visit kind set x is has = record { in_range = rw is.0 is.1; kind_has_set = rw is.0 has }
 
     members_end : (environment : Environment) (place : Place) (kind : Kind) (set : SetName) (body : Option Elem → Computation EvaluationState (Unit {0})) (x : Option Elem) → IsNilOrElement mesh kind x
-        → has_set kind set ≡ true → ((member : Elem) → IsElement mesh (kind_of set) member → Does environment environment (in_block (body (Some member))))
-        → Does environment environment (for_each_member mesh place body (members mesh set) x)
+        → has_set kind set ≡ true → ((member : Elem) → IsElement mesh (kind_of set) member → EndsInEnvironment environment environment (in_block (body (Some member))))
+        → EndsInEnvironment environment environment (for_each_member mesh place body (members mesh set) x)
     members_end environment place kind set body None of has h = ends_by_trap NilElement place
     members_end environment place kind set body (Some x) of has h =
-        each_ends environment (kind_of set) h (members mesh set x) (members_of mesh set x is_mesh (can_visit kind set x of has))
+        for_each_member_ends environment (kind_of set) h (members mesh set x) (members_of mesh set x is_mesh (can_visit kind set x of has))
 
     body_keeps : (body : Body) → Preserves KeepsShape (body_meaning mesh globals body)
     body_keeps body = keeps_body shapes_kept mesh globals body (λ a t. tt)
@@ -427,7 +427,7 @@ module _ (mesh : MeshLists) (globals : Environment) where
     member_keeps name body member = keeps_then (leads shapes_kept) (element_keeps shapes_kept name member) (λ done. body_keeps body)
 
     mutual
-      statement_ends : {environment behind : Environment} {s : Statement} → StatementFits environment s behind → Does environment behind (statement_meaning mesh globals s)
+      statement_ends : {environment after_environment : Environment} {s : Statement} → StatementFits environment s after_environment → EndsInEnvironment environment after_environment (statement_meaning mesh globals s)
       statement_ends {environment = environment} (FitsVar place name at h new) = ends_then (number_ends environment h) (λ n any. local_ends environment name n)
       statement_ends {environment = environment} (FitsVal {kind = kind} place name at h new) = ends_then (element_ends environment kind h) (λ x of. named_ends environment name kind x new of)
       statement_ends {environment = environment} (FitsField {number = number} {kind = kind} place name how is own h value) =
@@ -462,9 +462,9 @@ at_first mesh s (Some (ScalarName number)) h = (refl, refl, refl)
 at_first mesh s (Some LocalName) h = absurd (h LocalName refl)
 at_first mesh s (Some (ElementName kind)) h = absurd (h (ElementName kind) refl)
 
-opening_fits : (mesh : MeshLists) (c : Comprehension) (turns : ℕ) (s : State) (id : ℕ) → StateFits mesh c.environment s → id < count mesh c.over
+iteration_start_fits : (mesh : MeshLists) (c : Comprehension) (turns : ℕ) (s : State) (id : ℕ) → StateFits mesh c.environment s → id < count mesh c.over
     → EvaluationFits mesh c.environment ((c.name, ElementName c.over) ∷ c.environment) (iteration_start c turns s id)
-opening_fits mesh c turns s id h l = record {
+iteration_start_fits mesh c turns s id h l = record {
   state_fits = still_fits (record { fields = refl; scalars = refl }) h;
   name_fits = λ name. elim (cases_Bool (bytes_eq name c.name)) [
     | inl is ↦ rw is (refl, Some (unflipped c.over id), refl, (refl, l))
@@ -476,7 +476,7 @@ pub iteration_ends : (mesh : MeshLists) (c : Comprehension) (turns : ℕ) (s : S
     → ComprehensionFits c → StateFits mesh c.environment s → id < count mesh c.over → is_some (iteration_end mesh c turns s id) ≡ true
 iteration_ends mesh c turns s id is_mesh fits h l =
     is_an_end (λ m. Unit {0}) (iteration mesh c turns s id).after (iteration mesh c turns s id).answer
-    ((body_ends mesh c.environment is_mesh fits.body_fits).ends (iteration_start c turns s id) (opening_fits mesh c turns s id h l))
+    ((body_ends mesh c.environment is_mesh fits.body_fits).ends (iteration_start c turns s id) (iteration_start_fits mesh c turns s id h l))
 
 pub iteration_fits : (mesh : MeshLists) (c : Comprehension) (turns : ℕ) (s : State) (id : ℕ) → StateFits mesh c.environment s
     → StateFits mesh c.environment (iteration mesh c turns s id).after.state

@@ -1,4 +1,4 @@
--- Lists one behind the other in one buffer.
+-- Lists of fixed capacity in one buffer.
 use Rattle.std.proofs.Common.{◌≡◌, ℕ, zero, suc, ◌+◌, ◌-◌, ◌<◌, ◌≤◌, ◌⊎◌, List, [], ◌∷◌, ◌++◌, map, length, set, take, get_or, slice_get, Some, replicate, refl, sym, ap, subst, ◌∙◌, inl, inr, arith}
 use Rattle.std.specs.List.{between, range_with_len}
 use Rattle.std.proofs.lemmas.Bool.{cases_eq, cases_lt}
@@ -9,7 +9,7 @@ use Rattle.std.proofs.lemmas.List.Edits.{between_more, get_or-between, length-be
 use Rattle.std.proofs.lemmas.List.FromFn.{get_or-map-range_with_len, length-map-range_with_len}
 use Rattle.mesh_topology.specs.Internal.Buckets.{bucket_lists, AreApart, AreStartsOf, BucketLists, IsEmptyWith}
 
--- a write outside a part of a list
+-- a write outside of a part of a list
 between_set : (items : List ℕ) (from end i x : ℕ) → end ≤ length items → (i < from) ⊎ (end ≤ i) → between from end (set items i x) ≡ between from end items
 between_set items from end i x inside other = ext_get_or 0 (between from end (set items i x)) (between from end items) (length_is ∙ sym (length-between items from end inside)) same where
   length_is : length (between from end (set items i x)) ≡ end - from
@@ -24,13 +24,13 @@ between_set items from end i x inside other = ext_get_or 0 (between from end (se
       let m : k < end - from = omega (arith, length_is) in
       get_or-between (set items i x) from end k 0 (omega arith) ∙ (get_or-set_other items i (from + k) x 0 (apart k m other) ∙ sym (get_or-between items from end k 0 (omega arith)))
 
--- a write behind a part of a list
+-- a write at the end of a part of a list
 between_push : (items : List ℕ) (from end x : ℕ) → from ≤ end → end < length items → between from (end + 1) (set items end x) ≡ between from end items ++ x ∷ []
 between_push items from end x ascending inside =
     between_more (set items end x) from end 0 ascending (omega (arith, length-set items end x))
     ∙ (ap (λ xs. xs ++ get_or (set items end x) end 0 ∷ []) (between_set items from end end x (omega arith) (inr (omega arith))) ∙ ap (λ y. between from end items ++ y ∷ []) (get_or-set_same items end x 0 inside))
 
--- where lists begin rises
+-- the starts of lists ascend
 starts_rise : (starts ends : List ℕ) (size : ℕ) → AreApart starts ends size → (i n : ℕ) → i + n ≤ length ends → get_or starts i 0 ≤ get_or starts (i + n) 0
 starts_rise starts ends size so i zero l = let e : i ≡ i + 0 = omega arith in subst (λ j. get_or starts i 0 ≤ get_or starts j 0) e (omega arith)
 starts_rise starts ends size so i (suc n) l =
@@ -38,7 +38,7 @@ starts_rise starts ends size so i (suc n) l =
     let e : i + n + 1 ≡ i + suc n = omega arith in
     subst (λ j. get_or starts i 0 ≤ get_or starts j 0) e (omega (arith, before, so.begins (i + n) (omega arith), so.inside (i + n) (omega arith)))
 
--- what lies in a list's room lies in no other one
+-- an index within the capacity of a list is in no other list
 outside : (starts ends : List ℕ) (size : ℕ) → AreApart starts ends size → (list y end : ℕ) → list < length ends → y < length ends → (y ≡ list → ⊥)
     → get_or starts list 0 ≤ end → end < get_or starts (list + 1) 0 → (end < get_or starts y 0) ⊎ (get_or ends y 0 ≤ end)
 outside starts ends size so list y end l m ne from below = elim (cases_lt y list) [
@@ -52,7 +52,7 @@ outside starts ends size so list y end l m ne from below = elim (cases_lt y list
       inl (omega arith)
 ]
 
--- each list and its room end inside the buffer
+-- the end and the capacity of each list are within the buffer
 end_inside : (starts ends items : List ℕ) → AreApart starts ends (length items) → (i : ℕ) → i < length ends → get_or starts (i + 1) 0 ≤ length items
 end_inside starts ends items so i l =
     let e : i + 1 + (length ends - (i + 1)) ≡ length ends = omega arith in
@@ -62,7 +62,7 @@ end_inside starts ends items so i l =
 pub part_inside : (starts ends items : List ℕ) → AreApart starts ends (length items) → (i : ℕ) → i < length ends → get_or ends i 0 ≤ length items
 part_inside starts ends items so i l = omega (arith, end_inside starts ends items so i l, so.inside i l)
 
--- a list and its room
+-- a list and its capacity
 pub list_at : (starts ends items : List ℕ) (i : ℕ) → i < length ends → get_or (bucket_lists starts ends items).lists i [] ≡ between (get_or starts i 0) (get_or ends i 0) items
 list_at starts ends items i l = get_or-map-range_with_len (λ i. between (get_or starts i 0) (get_or ends i 0) items) 0 (length ends) i i [] l (omega arith)
 
@@ -75,14 +75,14 @@ lists_length starts ends items = length-map-range_with_len (λ i. between (get_o
 pub capacities_length : (starts ends items : List ℕ) → length (bucket_lists starts ends items).capacities ≡ length ends
 capacities_length starts ends items = length-map-range_with_len (λ i. get_or starts (i + 1) 0 - get_or starts i 0) 0 (length ends)
 
--- a list that has room ends inside its own part of the buffer
-pub record HasRoom (starts ends items : List ℕ) (list : ℕ) : Type 0 where
+-- a list that is not full ends within its capacity
+pub record HasCapacity (starts ends items : List ℕ) (list : ℕ) : Type 0 where
   pub below : list < length ends
   pub capacity : get_or ends list 0 < get_or starts (list + 1) 0
   pub inside : get_or ends list 0 < length items
 
 pub has_capacity : (buckets : BucketLists) (starts ends items : List ℕ) (list : ℕ) → bucket_lists starts ends items ≡ buckets → AreApart starts ends (length items) → list < length buckets.lists
-    → length (get_or buckets.lists list []) < get_or buckets.capacities list 0 → HasRoom starts ends items list
+    → length (get_or buckets.lists list []) < get_or buckets.capacities list 0 → HasCapacity starts ends items list
 has_capacity buckets starts ends items list is so below capacity =
     let r = subst (λ b. length (get_or b.lists list []) < get_or b.capacities list 0) (sym is) capacity in
     let e : length (between (get_or starts list 0) (get_or ends list 0) items) < get_or starts (list + 1) 0 - get_or starts list 0
@@ -94,14 +94,14 @@ has_capacity buckets starts ends items list is so below capacity =
     l : list < length ends
     l = let m = subst (λ b. list < length b.lists) (sym is) below in omega (arith, m, lists_length starts ends items)
 
--- an id more
-pub record IsPushed (buckets : BucketLists) (starts ends items : List ℕ) (list id : ℕ) : Type 0 where
+-- an id appended
+pub record IsPush (buckets : BucketLists) (starts ends items : List ℕ) (list id : ℕ) : Type 0 where
   pub apart : AreApart starts ends (length items)
   pub lists : (bucket_lists starts ends items).lists ≡ set buckets.lists list (get_or buckets.lists list [] ++ id ∷ [])
   pub capacities : (bucket_lists starts ends items).capacities ≡ buckets.capacities
 
 put : (starts ends items : List ℕ) (list id end : ℕ) → AreApart starts ends (length items) → list < length ends → end ≡ get_or ends list 0 → end < get_or starts (list + 1) 0 → end < length items
-    → IsPushed (bucket_lists starts ends items) starts (set ends list (end + 1)) (set items end id) list id
+    → IsPush (bucket_lists starts ends items) starts (set ends list (end + 1)) (set items end id) list id
 put starts ends items list id end so l is capacity inside = record {
   apart = record {
     length_is = so.length_is ∙ ap (λ n. n + 1) (sym (length-set ends list (end + 1)));
@@ -171,15 +171,15 @@ put starts ends items list id end so l is capacity inside = record {
             a ∙ (b ∙ (sym (list_at starts ends items i m) ∙ f))
       ]
 
-pub pushed : (buckets : BucketLists) (starts ends items : List ℕ) (list id end : ℕ) → bucket_lists starts ends items ≡ buckets → AreApart starts ends (length items) → HasRoom starts ends items list
-    → end ≡ get_or ends list 0 → IsPushed buckets starts (set ends list (end + 1)) (set items end id) list id
-pushed buckets starts ends items list id end same so has is =
-    subst (λ b. IsPushed b starts (set ends list (end + 1)) (set items end id) list id) same (put starts ends items list id end so has.below is (omega (arith, has.capacity)) (omega (arith, has.inside)))
+pub push_is : (buckets : BucketLists) (starts ends items : List ℕ) (list id end : ℕ) → bucket_lists starts ends items ≡ buckets → AreApart starts ends (length items) → HasCapacity starts ends items list
+    → end ≡ get_or ends list 0 → IsPush buckets starts (set ends list (end + 1)) (set items end id) list id
+push_is buckets starts ends items list id end same so has is =
+    subst (λ b. IsPush b starts (set ends list (end + 1)) (set items end id) list id) same (put starts ends items list id end so has.below is (omega (arith, has.capacity)) (omega (arith, has.inside)))
 
--- a list more is read
-pub list_more : (buckets : BucketLists) (starts ends items : List ℕ) (i from end : ℕ) (mid new : List (List ℕ)) → bucket_lists starts ends items ≡ buckets → i < length ends → from ≡ get_or starts i 0 → end ≡ get_or ends i 0
+-- the next list is read
+pub list_step : (buckets : BucketLists) (starts ends items : List ℕ) (i from end : ℕ) (mid new : List (List ℕ)) → bucket_lists starts ends items ≡ buckets → i < length ends → from ≡ get_or starts i 0 → end ≡ get_or ends i 0
     → mid ≡ take i buckets.lists → new ≡ mid ++ between from end items ∷ [] → new ≡ take (i + 1) buckets.lists
-list_more buckets starts ends items i from end mid new same l f e so is =
+list_step buckets starts ends items i from end mid new same l f e so is =
     let lists = (bucket_lists starts ends items).lists in
     let one : between from end items ≡ get_or lists i [] = ap (λ n. between n end items) f ∙ (ap (λ n. between (get_or starts i 0) n items) e ∙ sym (list_at starts ends items i l)) in
     let front : mid ≡ take i lists = so ∙ ap (λ b. take i b.lists) (sym same) in
@@ -218,15 +218,15 @@ empty_with capacities starts ends items so is full = record {
       let m : i < length capacities = omega (arith, length_is) in
       capacity_at starts ends items i k ∙ (let e = so.at i m in omega (arith, e))
 
--- what is read of a list
-pub record IsRead (buckets : BucketLists) (starts ends items : List ℕ) (place : ℕ) : Type 0 where
+-- the reads of a list are within the buffer
+pub record IsListRead (buckets : BucketLists) (starts ends items : List ℕ) (place : ℕ) : Type 0 where
   pub below : place < length ends
   pub begins : place < length starts
   pub ascending : get_or starts place 0 ≤ get_or ends place 0
   pub inside : get_or ends place 0 ≤ length items
   pub is : slice_get buckets.lists place ≡ Some (between (get_or starts place 0) (get_or ends place 0) items)
 
-pub list_read : (buckets : BucketLists) (starts ends items : List ℕ) (place : ℕ) → bucket_lists starts ends items ≡ buckets → AreApart starts ends (length items) → place < length buckets.lists → IsRead buckets starts ends items place
+pub list_read : (buckets : BucketLists) (starts ends items : List ℕ) (place : ℕ) → bucket_lists starts ends items ≡ buckets → AreApart starts ends (length items) → place < length buckets.lists → IsListRead buckets starts ends items place
 list_read buckets starts ends items place is so below = record {
   below = l;
   begins = omega (arith, so.length_is, l);

@@ -1,4 +1,4 @@
--- How many edges and faces a mesh has at most.
+-- Upper bounds of the numbers of edges, faces and incident elements.
 use Rattle.std.proofs.Common.{◌≡◌, ℕ, ◌*◌, ◌<◌, ◌≤◌, ◌^◌, List, [], ◌∷◌, ◌++◌, length, map, get_or, flat_map, All, true, refl, sym, ap, subst, ◌∙◌, inl, inr, arith, length-append, ltb-true, nat_lt}
 use Rattle.std.proofs.lemmas.List.{get_or_default, length-map}
 use Rattle.liszt_base.specs.Corners.{includes, IsCell, IsMesh}
@@ -14,21 +14,21 @@ use Rattle.mesh_topology.proofs.RankLemmas.{ordered}
 use Rattle.mesh_topology.proofs.FaceEdgeLemmas.{placed}
 use Rattle.mesh_topology.proofs.SideLemmas.{one_or_two}
 use Rattle.mesh_topology.proofs.CombinationLemmas.{IsAscending, is_combination}
-use Rattle.mesh_topology.proofs.NearLemmas.{IsKept, kept_is, rising_is, cell_is, cell_count, vertex_count, vertex_is, more_left, HasRow, AreRows, table_members}
+use Rattle.mesh_topology.proofs.NearLemmas.{IsFilter, filter_is, corner_set_is, cell_is, cell_count, vertex_count, vertex_is, more_left, HasRow, AreRows, table_members}
 use Rattle.mesh_topology.proofs.LowerTableLemmas.{near_lists_length, near_lists_at}
 
--- a list parted at a member
-pub record IsParted {A : Type 0} (x : A) (ys : List A) : Type 0 where
+-- a list split at a member
+pub record IsSplit {A : Type 0} (x : A) (ys : List A) : Type 0 where
   pub front : List A
   pub rest : List A
   pub is : ys ≡ front ++ x ∷ rest
 
-parted : {A : Type 0} (x : A) (ys : List A) → Member x ys → IsParted x ys
+parted : {A : Type 0} (x : A) (ys : List A) → Member x ys → IsSplit x ys
 parted x [] m = absurd m
 parted x (y ∷ ys) (inl e) = record { front = []; rest = ys; is = ap (λ v. v ∷ ys) e }
 parted x (y ∷ ys) (inr m) = let p = parted x ys m in record { front = y ∷ p.front; rest = p.rest; is = ap (λ v. y ∷ v) p.is }
 
--- a list whose members are all different, and all in another list, is no longer than that
+-- a list of different members of another list is no longer than that list
 no_more : {A : Type 0} (xs ys : List A) → Pairs (λ x y. x ≡ y → ⊥) xs → ((x : A) → Member x xs → Member x ys) → length xs ≤ length ys
 no_more [] ys d h = omega arith
 no_more {A} (x ∷ xs) ys d h =
@@ -43,12 +43,12 @@ no_more {A} (x ∷ xs) ys d h =
       | inr n ↦ elim n [ inl e ↦ absurd (ne e) | inr k ↦ member_right us vs z k ]
     ]
 
--- what stands in lexicographic order is different
+-- the members of a lexicographically ordered list are different
 before_different : (xs : List (List ℕ)) → Pairs Before xs → Pairs (λ x y. x ≡ y → ⊥) xs
 before_different [] p = tt
 before_different (x ∷ xs) p = (λ y m e. not_before_itself y (subst (λ v. Before v y) e (p.0 y m)), before_different xs p.1)
 
--- pieces of one length
+-- the concatenation of pieces of one length
 pieces_length : {A B : Type 0} (f : A → List B) (n : ℕ) (xs : List A) → ((x : A) → Member x xs → length (f x) ≡ n) → length (flat_map f xs) ≡ n * length xs
 pieces_length f n [] h = omega arith
 pieces_length f n (x ∷ xs) h =
@@ -56,7 +56,7 @@ pieces_length f n (x ∷ xs) h =
     let more = pieces_length f n xs (λ y m. h y (inr m)) in
     omega (arith, length-append (f x) (flat_map f xs))
 
--- the vertices near a cell are a row of its corners
+-- the vertices near a cell are its corners in ascending order
 near_rows : (mesh : MeshLists) → IsMesh (length mesh.points) (corner_lists mesh) → AreRows mesh (near_lists mesh Cell Vertex)
 near_rows mesh is = record { length_is = near_lists_length mesh Cell Vertex; row = row } where
   test : (cell v : ℕ) → cell < count mesh Cell → v < count mesh Vertex → is_incident mesh Cell cell Vertex v ≡ includes (corners mesh Cell cell) (v ∷ [])
@@ -67,8 +67,8 @@ near_rows mesh is = record { length_is = near_lists_length mesh Cell Vertex; row
 
   row : (cell : ℕ) → cell < count mesh Cell → HasRow (corners mesh Cell cell) (get_or (near_lists mesh Cell Vertex) cell [])
   row cell l = subst (λ r. HasRow (corners mesh Cell cell) r) (sym (near_lists_at mesh Cell Vertex cell l)) (record { ascending = k.ascending; out = out; back = back }) where
-    k : IsKept (is_incident mesh Cell cell Vertex) (count mesh Vertex) (near mesh Cell cell Vertex)
-    k = kept_is (is_incident mesh Cell cell Vertex) (count mesh Vertex)
+    k : IsFilter (is_incident mesh Cell cell Vertex) (count mesh Vertex) (near mesh Cell cell Vertex)
+    k = filter_is (is_incident mesh Cell cell Vertex) (count mesh Vertex)
 
     out : (x : ℕ) → Member x (near mesh Cell cell Vertex) → Member x (corners mesh Cell cell)
     out x m = let i = k.inside x m in included (corners mesh Cell cell) (x ∷ []) x (sym (test cell x l i.0) ∙ i.1) (inl refl)
@@ -131,14 +131,14 @@ few_edges mesh is = few mesh is Edge 2 6 refl four_two
 pub few_faces : (mesh : MeshLists) → IsMesh (length mesh.points) (corner_lists mesh) → count mesh Face ≤ 4 * length mesh.cells
 few_faces mesh is = few mesh is Face 3 4 refl four_three
 
--- so few points and few cells are few elements of each kind
+-- bounds of points and cells bound the elements of each kind
 pub fits : (mesh : MeshLists) → IsMesh (length mesh.points) (corner_lists mesh) → length mesh.points < 2 ^ 32 → 6 * length mesh.cells < 2 ^ 32 → (kind : Kind) → count mesh kind < 2 ^ 32
 fits mesh is points cells Vertex = subst (λ n. n < 2 ^ 32) (sym (vertex_count mesh)) points
 fits mesh is points cells Edge = let e = few_edges mesh is in omega arith
 fits mesh is points cells Face = let e = few_faces mesh is in omega arith
 fits mesh is points cells Cell = let e = cell_count mesh in omega arith
 
--- the elements of so many corners near a cell are no more than the choices of its row
+-- a cell is near at most as many elements of `size` corners as there are combinations of its corners
 rows_few : (mesh : MeshLists) → IsMesh (length mesh.points) (corner_lists mesh) → (kind : Kind) (size n : ℕ) → HasCorners kind size → size < 4 → ((row : List ℕ) → length row ≡ 4 → length (combinations size row) ≡ n)
     → ((cell y : ℕ) → is_incident mesh Cell cell kind y ≡ one_includes_other (corners mesh Cell cell) (corners mesh kind y)) → All (λ row. length row ≤ n) (near_lists mesh Cell kind)
 rows_few mesh is kind size n h less many test = each where
@@ -149,7 +149,7 @@ rows_few mesh is kind size n h less many test = each where
       let are = near_rows mesh is in
       let row = get_or rows cell [] in
       let r = are.row cell l in
-      let k = kept_is (is_incident mesh Cell cell kind) (count mesh kind) in
+      let k = filter_is (is_incident mesh Cell cell kind) (count mesh kind) in
       let ids = near mesh Cell cell kind in
       let sets = map (λ y. corners mesh kind y) ids in
       let apart = before_different sets (pairs_before ids (λ y m. (k.inside y m).0) k.ascending) in
@@ -163,7 +163,7 @@ rows_few mesh is kind size n h less many test = each where
       chosen c r ids inside set m =
           let t = member_mapped (λ y. corners mesh kind y) ids set m in
           let i = inside t.0 t.1 in
-          let e = rising_is mesh kind size h t.0 i.0 in
+          let e = corner_set_is mesh kind size h t.0 i.0 in
           let one = sym (more_left (corners mesh Cell cell) (corners mesh kind t.0) c.1 (omega (arith, c.0, e.size_is))) ∙ (sym (test cell t.0) ∙ i.1) in
           let here = is_combination size (get_or (near_lists mesh Cell Vertex) cell []) (corners mesh kind t.0) r.ascending
           (record { size_is = e.size_is; ascending = e.ascending; inside = λ x n. r.back x (included (corners mesh Cell cell) (corners mesh kind t.0) x one n) }) in
@@ -188,7 +188,7 @@ few_edges_near mesh is = rows_few mesh is Edge 2 6 refl (omega arith) four_two (
 pub few_faces_near : (mesh : MeshLists) → IsMesh (length mesh.points) (corner_lists mesh) → All (λ row. length row ≤ 4) (near_lists mesh Cell Face)
 few_faces_near mesh is = rows_few mesh is Face 3 4 refl (omega arith) four_three (λ cell y. refl)
 
--- and a face has at most two cells beside it
+-- a face has at most two cells beside it
 pub few_sides : (mesh : MeshLists) → IsMesh (length mesh.points) (corner_lists mesh) → All (λ row. length row ≤ 2) (near_lists mesh Face Cell)
 few_sides mesh is face d l =
     let k : face < count mesh Face = subst (λ m. face < m) (near_lists_length mesh Face Cell) l in

@@ -1,4 +1,4 @@
--- The cycle of a face is one that its first side induces, begun at its least corner.
+-- The cycle of a face is one that its first side induces, from its smallest corner on.
 use Rattle.std.proofs.Common.{◌≡◌, ℕ, ◌-◌, ◌<◌, ◌||◌, ◌==◌, cond, Bool, true, false, Some, None, unwrap_or, List, [], ◌∷◌, length, get_or}
 use Rattle.std.proofs.Common.{find, flat_map, refl, sym, ap, subst, ◌∙◌, inl, inr, arith, eqb-true}
 use Rattle.std.proofs.lemmas.Bool.{and_parts, and_from}
@@ -11,27 +11,27 @@ use Rattle.mesh_topology.proofs.MemberLemmas.{contained_member, member_flat}
 use Rattle.mesh_topology.proofs.RankLemmas.{each_at}
 use Rattle.mesh_topology.proofs.SideLemmas.{of_cell, face_is, incident_is, one_or_two}
 
--- a list's first member that passes
-pub record IsFound {A : Type 0} (p : A → Bool) (xs : List A) : Type 0 where
+-- the first member of a list that passes a test
+pub record IsFindResult {A : Type 0} (p : A → Bool) (xs : List A) : Type 0 where
   pub member : A
   pub is : find p xs ≡ Some member
   pub inside : Member member xs
   pub passes : p member ≡ true
 
--- the head, or what is found behind it
-found_here : {A : Type 0} (p : A → Bool) (y : A) (ys : List A) (b : Bool) → p y ≡ b → (b ≡ false → IsFound p ys) → IsFound p (y ∷ ys)
-found_here p y ys true is more = record { member = y; is = rw is refl; inside = inl refl; passes = is }
-found_here p y ys false is more =
+-- the head, or the first member of the tail that passes
+find_step : {A : Type 0} (p : A → Bool) (y : A) (ys : List A) (b : Bool) → p y ≡ b → (b ≡ false → IsFindResult p ys) → IsFindResult p (y ∷ ys)
+find_step p y ys true is more = record { member = y; is = rw is refl; inside = inl refl; passes = is }
+find_step p y ys false is more =
     let f = more refl in
     record { member = f.member; is = rw is f.is; inside = inr f.inside; passes = f.passes }
 
--- where a member passes, one is found
-found : {A : Type 0} (p : A → Bool) (xs : List A) (x : A) → Member x xs → p x ≡ true → IsFound p xs
+-- if a member passes, `find` gives one
+found : {A : Type 0} (p : A → Bool) (xs : List A) (x : A) → Member x xs → p x ≡ true → IsFindResult p xs
 found p [] x m h = absurd m
-found p (y ∷ ys) x (inr m) h = found_here p y ys (p y) refl (λ _. found p ys x m h)
-found p (y ∷ ys) x (inl e) h = found_here p y ys (p y) refl (λ f. let g : p y ≡ true = ap p e ∙ h in cc)
+found p (y ∷ ys) x (inr m) h = find_step p y ys (p y) refl (λ _. found p ys x m h)
+found p (y ∷ ys) x (inl e) h = find_step p y ys (p y) refl (λ f. let g : p y ≡ true = ap p e ∙ h in cc)
 
--- what four corners induce are cycles of three
+-- four corners induce cycles of three
 three_length : (points : ℕ) (x z : List ℕ) → IsCell points x → Member z (induced_cycles x) → length z ≡ 3
 three_length points (a ∷ b ∷ c ∷ d ∷ []) z h (inl e) = ap (λ v. length v) (sym e)
 three_length points (a ∷ b ∷ c ∷ d ∷ []) z h (inr (inl e)) = ap (λ v. length v) (sym e)
@@ -48,19 +48,19 @@ three_length points (a ∷ b ∷ c ∷ d ∷ e ∷ xs) z h m = absurd m
 pub same_by : (xs ys : List ℕ) → ((x : ℕ) → Member x xs → Member x ys) → ((x : ℕ) → Member x ys → Member x xs) → same_members xs ys ≡ true
 same_by xs ys h k = and_from (includes xs ys) (includes ys xs) (includes_by xs ys k) (includes_by ys xs h)
 
--- the rotation of a cycle that begins at one of its members, and has them all
-pub record IsBegun (first : ℕ) (cycle rotation : List ℕ) : Type 0 where
+-- a rotation of a cycle with a first member and all members of the cycle
+pub record IsRotationFrom (first : ℕ) (cycle rotation : List ℕ) : Type 0 where
   pub one : Member rotation (rotations cycle)
   pub begins : get_or rotation 0 0 ≡ first
   pub same : same_members rotation cycle ≡ true
 
--- of the three rotations the first that begins there is taken
-transposed : (first a b c : ℕ) (p q r : Bool) → (a == first) ≡ p → (b == first) ≡ q → (c == first) ≡ r → (p || (q || (r || false))) ≡ true
-    → IsBegun first (a ∷ b ∷ c ∷ [])
+-- of the three rotations the first one with that first member is taken
+rotation_cases : (first a b c : ℕ) (p q r : Bool) → (a == first) ≡ p → (b == first) ≡ q → (c == first) ≡ r → (p || (q || (r || false))) ≡ true
+    → IsRotationFrom first (a ∷ b ∷ c ∷ [])
     (unwrap_or (cond p (Some (a ∷ b ∷ c ∷ [])) (cond q (Some (b ∷ c ∷ a ∷ [])) (cond r (Some (c ∷ a ∷ b ∷ [])) None))) [])
-transposed first a b c true q r e f g i =
+rotation_cases first a b c true q r e f g i =
     record { one = inl refl; begins = eqb-true a first e; same = same_by (a ∷ b ∷ c ∷ []) (a ∷ b ∷ c ∷ []) (λ x m. m) (λ x m. m) }
-transposed first a b c false true r e f g i =
+rotation_cases first a b c false true r e f g i =
     record { one = inr (inl refl); begins = eqb-true b first f; same = same_by (b ∷ c ∷ a ∷ []) (a ∷ b ∷ c ∷ []) there back }
   where
     there : (x : ℕ) → Member x (b ∷ c ∷ a ∷ []) → Member x (a ∷ b ∷ c ∷ [])
@@ -68,7 +68,7 @@ transposed first a b c false true r e f g i =
 
     back : (x : ℕ) → Member x (a ∷ b ∷ c ∷ []) → Member x (b ∷ c ∷ a ∷ [])
     back x m = grind arith
-transposed first a b c false false true e f g i =
+rotation_cases first a b c false false true e f g i =
     record { one = inr (inr (inl refl)); begins = eqb-true c first g; same = same_by (c ∷ a ∷ b ∷ []) (a ∷ b ∷ c ∷ []) there back }
   where
     there : (x : ℕ) → Member x (c ∷ a ∷ b ∷ []) → Member x (a ∷ b ∷ c ∷ [])
@@ -76,15 +76,15 @@ transposed first a b c false false true e f g i =
 
     back : (x : ℕ) → Member x (a ∷ b ∷ c ∷ []) → Member x (c ∷ a ∷ b ∷ [])
     back x m = grind arith
-transposed first a b c false false false e f g i = cc
+rotation_cases first a b c false false false e f g i = cc
 
--- so a cycle is begun at one of its members
-pub begun : (first : ℕ) (z : List ℕ) → length z ≡ 3 → is_in z first ≡ true → IsBegun first z (rotation_from first z)
-begun first (a ∷ b ∷ c ∷ []) l i = transposed first a b c (a == first) (b == first) (c == first) refl refl refl i
-begun first [] l i = absurd (omega arith)
-begun first (a ∷ []) l i = absurd (omega arith)
-begun first (a ∷ b ∷ []) l i = absurd (omega arith)
-begun first (a ∷ b ∷ c ∷ d ∷ xs) l i = absurd (omega arith)
+-- a cycle has a rotation from each of its members
+pub rotation_from_is : (first : ℕ) (z : List ℕ) → length z ≡ 3 → is_in z first ≡ true → IsRotationFrom first z (rotation_from first z)
+rotation_from_is first (a ∷ b ∷ c ∷ []) l i = rotation_cases first a b c (a == first) (b == first) (c == first) refl refl refl i
+rotation_from_is first [] l i = absurd (omega arith)
+rotation_from_is first (a ∷ []) l i = absurd (omega arith)
+rotation_from_is first (a ∷ b ∷ []) l i = absurd (omega arith)
+rotation_from_is first (a ∷ b ∷ c ∷ d ∷ xs) l i = absurd (omega arith)
 
 -- the cycle of a face
 pub cycle_of_face : (mesh : MeshLists) → IsMesh (length mesh.points) (corner_lists mesh) → (face : ℕ) → face < count mesh Face
@@ -106,7 +106,7 @@ cycle_of_face mesh is face l =
     let inside : Member first t = member_at t 0 0 (omega (arith, f.three)) in
     let three = three_length (length mesh.points) c z.member cell z.inside in
     let cycle = rotation_from first z.member in
-    let b = begun first z.member three (member_in z.member first (included z.member t first same.1 inside)) in
+    let b = rotation_from_is first z.member three (member_in z.member first (included z.member t first same.1 inside)) in
     let transpose = and_parts (includes cycle z.member) (includes z.member cycle) b.same in
     let there = includes_trans cycle z.member t transpose.0 same.1 in
     let both = and_from (includes cycle t) (includes t cycle) there (includes_trans t z.member cycle same.0 transpose.1) in

@@ -1,4 +1,4 @@
--- The cells of an element as those cells of a part of it that have one corner more.
+-- The cells of an element are the cells of a part of it that have one further corner.
 use Rattle.std.proofs.Common.{◌≡◌, ◌⊎◌, ℕ, ◌+◌, ◌<◌, Bool, true, List, [], ◌∷◌, ◌++◌, map, length, take, get_or, slice_get, Some, filter, refl, sym, ap, subst, ◌∙◌, inl, inr, arith}
 use Rattle.std.specs.List.{AllZip}
 use Rattle.std.proofs.lemmas.List.{get_or-map, length-map, map-append, take_more}
@@ -12,24 +12,24 @@ use Rattle.mesh_topology.specs.Elements.{corner_lists, elements, count, corners,
 use Rattle.mesh_topology.specs.Internal.Incidence.{cells_with, AreEdgeCornerPairs, ArePairsInRange}
 use Rattle.mesh_topology.specs.Internal.Tables.{near_lists}
 use Rattle.mesh_topology.proofs.MemberLemmas.{Member, contained_member, in_member, included, includes_by, member_at, member_in, member_kept, member_of_kept}
-use Rattle.mesh_topology.proofs.NearLemmas.{IsKept, IsRising, cell_is, is_kept, kept_is, kept_rises, more_right, rising_is, vertex_count, vertex_is}
+use Rattle.mesh_topology.proofs.NearLemmas.{IsFilter, IsCornerSet, cell_is, is_filter, filter_is, kept_rises, more_right, corner_set_is, vertex_count, vertex_is}
 use Rattle.mesh_topology.proofs.LowerTableLemmas.{near_lists_at, near_lists_are, near_lists_length}
 use Rattle.mesh_topology.proofs.LookupLemmas.{two_listed}
 use Rattle.mesh_topology.proofs.ListLemmas.{zip_at}
-use Rattle.mesh_topology.proofs.UpperTableLemmas.{either_cell_vertex, rows_below}
+use Rattle.mesh_topology.proofs.UpperTableLemmas.{cell_vertex_symmetric, rows_below}
 
--- a pair more
-pub with_more : (cells pairs lists all new : List (List ℕ)) (i : ℕ) (list some : List ℕ) → i < length pairs → slice_get lists (get_or (get_or pairs i []) 0 0) ≡ Some list
+-- the next pair
+pub with_step : (cells pairs lists all new : List (List ℕ)) (i : ℕ) (list some : List ℕ) → i < length pairs → slice_get lists (get_or (get_or pairs i []) 0 0) ≡ Some list
     → some ≡ filter (λ id. is_in (get_or cells id []) (get_or (get_or pairs i []) 1 0)) list → all ≡ map (cells_with cells lists) (take i pairs) → new ≡ all ++ some ∷ []
     → new ≡ map (cells_with cells lists) (take (i + 1) pairs)
-with_more cells pairs lists all new i list some l f is so e =
+with_step cells pairs lists all new i list some l f is so e =
     let pair = get_or pairs i [] in
     let one = get_or_from_slice_get lists (get_or pair 0 0) list [] f in
     let here : some ≡ cells_with cells lists pair = is ∙ ap (λ xs. filter (λ id. is_in (get_or cells id []) (get_or pair 1 0)) xs) (sym one) in
     e ∙ (ap (λ xs. xs ++ some ∷ []) so ∙ (ap (λ c. map (cells_with cells lists) (take i pairs) ++ c ∷ []) here
     ∙ (sym (map-append (cells_with cells lists) (take i pairs) (pair ∷ [])) ∙ ap (λ xs. map (cells_with cells lists) xs) (sym (take_more pairs i [] l)))))
 
--- an element and a vertex that a cell includes exactly where it includes a second element
+-- a cell includes an element and a vertex if and only if it includes a second element
 pub record Covers (mesh : MeshLists) (kind out : Kind) (x v id : ℕ) : Type 0 where
   pub first : x < count mesh kind
   pub second : v < count mesh Vertex
@@ -38,18 +38,18 @@ pub record Covers (mesh : MeshLists) (kind out : Kind) (x v id : ℕ) : Type 0 w
 
 kept_near : (mesh : MeshLists) (kind out : Kind) (x v id : ℕ) (cells : List (List ℕ)) → cells ≡ near_lists mesh Cell Vertex → Covers mesh kind out x v id
     → filter (λ c. is_in (get_or cells c []) v) (near mesh kind x Cell) ≡ near mesh out id Cell
-kept_near mesh kind out x v id cells rows covers = is_kept (is_incident mesh out id Cell) (count mesh Cell) some (record { ascending = kept_rises has (near mesh kind x Cell) one.ascending; inside = inside; all = all }) where
+kept_near mesh kind out x v id cells rows covers = is_filter (is_incident mesh out id Cell) (count mesh Cell) some (record { ascending = kept_rises has (near mesh kind x Cell) one.ascending; inside = inside; all = all }) where
   has : ℕ → Bool
   has c = is_in (get_or cells c []) v
 
   some : List ℕ
   some = filter has (near mesh kind x Cell)
 
-  one : IsKept (is_incident mesh kind x Cell) (count mesh Cell) (near mesh kind x Cell)
-  one = kept_is (is_incident mesh kind x Cell) (count mesh Cell)
+  one : IsFilter (is_incident mesh kind x Cell) (count mesh Cell) (near mesh kind x Cell)
+  one = filter_is (is_incident mesh kind x Cell) (count mesh Cell)
 
-  two : (c : ℕ) → IsKept (is_incident mesh Cell c Vertex) (count mesh Vertex) (near mesh Cell c Vertex)
-  two c = kept_is (is_incident mesh Cell c Vertex) (count mesh Vertex)
+  two : (c : ℕ) → IsFilter (is_incident mesh Cell c Vertex) (count mesh Vertex) (near mesh Cell c Vertex)
+  two c = filter_is (is_incident mesh Cell c Vertex) (count mesh Vertex)
 
   row_at : (c : ℕ) → c < count mesh Cell → get_or cells c [] ≡ near mesh Cell c Vertex
   row_at c l = ap (λ t. get_or t c []) rows ∙ near_lists_at mesh Cell Vertex c l
@@ -59,15 +59,15 @@ kept_near mesh kind out x v id cells rows covers = is_kept (is_incident mesh out
       let k = member_of_kept has (near mesh kind x Cell) c m in
       let a = one.inside c k.0 in
       let b = (two c).inside v (subst (λ row. Member v row) (row_at c a.0) (in_member (get_or cells c []) v k.1)) in
-      (a.0, covers.both c a.0 a.1 (sym (either_cell_vertex mesh c v) ∙ b.1))
+      (a.0, covers.both c a.0 a.1 (sym (cell_vertex_symmetric mesh c v) ∙ b.1))
 
   all : (c : ℕ) → c < count mesh Cell → is_incident mesh out id Cell c ≡ true → Member c some
   all c l t =
       let e = covers.each c l t in
-      let m = subst (λ row. Member v row) (sym (row_at c l)) ((two c).all v covers.second (either_cell_vertex mesh c v ∙ e.1)) in
+      let m = subst (λ row. Member v row) (sym (row_at c l)) ((two c).all v covers.second (cell_vertex_symmetric mesh c v ∙ e.1)) in
       member_kept has (near mesh kind x Cell) c (one.all c l e.0) (member_in (get_or cells c []) v m)
 
--- by their corners
+-- the same by corners
 covers_by : (mesh : MeshLists) → IsMesh (length mesh.points) (corner_lists mesh) → (kind out : Kind) (x v id : ℕ) (one all : List ℕ)
     → ((c : ℕ) → is_incident mesh kind x Cell c ≡ one_includes_other (corners mesh kind x) (corners mesh Cell c)) → ((c : ℕ) → is_incident mesh out id Cell c ≡ one_includes_other (corners mesh out id) (corners mesh Cell c))
     → x < count mesh kind → v < length mesh.points → corners mesh kind x ≡ one → corners mesh out id ≡ all → length one < 4 → length all < 4
@@ -108,8 +108,8 @@ edge_covers mesh is id l =
     covers_by mesh is Vertex Edge a b id (a ∷ []) (a ∷ b ∷ []) (λ c. refl) (λ c. refl) (omega (arith, below_a, vertex_count mesh)) below_b (vertex_is mesh a below_a) (two_listed (corners mesh Edge id) r.size_is)
     (omega arith) (omega arith) first (inr (inl refl)) part
   where
-    r : IsRising (length mesh.points) 2 (corners mesh Edge id)
-    r = rising_is mesh Edge 2 refl id l
+    r : IsCornerSet (length mesh.points) 2 (corners mesh Edge id)
+    r = corner_set_is mesh Edge 2 refl id l
 
     a : ℕ
     a = get_or (corners mesh Edge id) 0 0
@@ -132,7 +132,7 @@ edge_covers mesh is id l =
     part w (inr (inl e)) = inr e
     part w (inr (inr m)) = absurd m
 
--- what the first of a face's edges is
+-- the first edge of a face
 pub record IsFirstOf (table : List (List ℕ)) (t ids : List ℕ) : Type 0 where
   pub below : get_or ids 0 0 < length table
   pub all : t ≡ get_or t 0 0 ∷ get_or t 1 0 ∷ get_or t 2 0 ∷ []
@@ -153,8 +153,8 @@ face_covers mesh is ids id l ranks =
     covers_by mesh is Edge Face (get_or ids 0 0) c id (a ∷ b ∷ []) (a ∷ b ∷ c ∷ []) (λ c. refl) (λ c. refl) one.below (r.below c (member_at (corners mesh Face id) 2 0 (omega (arith, r.size_is)))) one.is one.all
     (omega arith) (omega arith) first (inr (inr (inl refl))) part
   where
-    r : IsRising (length mesh.points) 3 (corners mesh Face id)
-    r = rising_is mesh Face 3 refl id l
+    r : IsCornerSet (length mesh.points) 3 (corners mesh Face id)
+    r = corner_set_is mesh Face 3 refl id l
 
     one : IsFirstOf (elements mesh Edge) (corners mesh Face id) ids
     one = first_edge_of_face (elements mesh Edge) (corners mesh Face id) ids r.size_is ranks
@@ -179,7 +179,7 @@ face_covers mesh is ids id l ranks =
     part w (inr (inr (inl e))) = inr e
     part w (inr (inr (inr m))) = absurd m
 
--- the cells of edges and of faces, as they are built
+-- the cells of edges and of faces
 pub record HasCellsOf (mesh : MeshLists) (out : Kind) (cells pairs lists : List (List ℕ)) : Type 0 where
   pub has : ArePairsInRange cells pairs lists
   pub are : map (cells_with cells lists) pairs ≡ near_lists mesh out Cell

@@ -1,4 +1,4 @@
--- Two corners of a face are the ends of an edge, and a face's cycle, turned round or not, goes through its three corners.
+-- Two corners of a face are the ends of an edge, and the cycle of a face, reversed or not, has its three corners.
 use Rattle.std.proofs.Common.{◌≡◌, ℕ, zero, suc, ◌<◌, Bool, true, false, List, [], ◌∷◌, length, get_or, reverse, flat_map, refl, sym, ap, subst, inl, inr, arith, if◌then◌else◌}
 use Rattle.std.proofs.lemmas.Bool.{and_parts, and_from}
 use Rattle.liszt_base.specs.Corners.{includes, same_members, are_different, induced_cycles, IsMesh}
@@ -10,9 +10,9 @@ use Rattle.mesh_topology.proofs.MemberLemmas.{member_contained, member_flattened
 use Rattle.mesh_topology.proofs.OrderLemmas.{Between, bounds}
 use Rattle.mesh_topology.proofs.RankLemmas.{element_is, is_element}
 use Rattle.mesh_topology.proofs.SideLemmas.{face_is}
-use Rattle.mesh_topology.proofs.CycleLemmas.{same_by, begun, cycle_of_face}
+use Rattle.mesh_topology.proofs.CycleLemmas.{same_by, rotation_from_is, cycle_of_face}
 
--- a member stands at some place
+-- a member has an index
 pub placed : {A : Type 0} (xs : List A) (x d : A) → Member x xs → (k : ℕ) × (k < length xs) × (get_or xs k d ≡ x)
 placed [] x d m = absurd m
 placed (y ∷ ys) x d (inl e) = (zero, omega arith, e)
@@ -24,7 +24,7 @@ pub record IsEdge (mesh : MeshLists) (a b : ℕ) : Type 0 where
   pub below : id < count mesh Edge
   pub is : corners mesh Edge id ≡ a ∷ b ∷ []
 
--- two corners of a face are one
+-- two corners of a face are the ends of an edge
 pub edge_of_face : (mesh : MeshLists) (face : ℕ) → face < count mesh Face → (a b : ℕ) → a < b → Member a (corners mesh Face face)
     → Member b (corners mesh Face face) → IsEdge mesh a b
 edge_of_face mesh face l a b ascending ma mb =
@@ -49,7 +49,7 @@ pub record GoesThrough (t cycle : List ℕ) : Type 0 where
   pub three : length cycle ≡ 3
   pub same : same_members cycle t ≡ true
 
--- three different corners are different in their cycle
+-- the corners of a cycle of three different corners are different
 pub all_different : (t : List ℕ) (a b c : ℕ) → are_different t ≡ true → length t ≡ 3 → GoesThrough t (a ∷ b ∷ c ∷ [])
     → (a ≡ b → ⊥) × (b ≡ c → ⊥) × (c ≡ a → ⊥)
 all_different t a b c d l h = (first, second, third) where
@@ -101,13 +101,13 @@ same_trans xs ys zs a b =
     let q = and_parts (includes ys zs) (includes zs ys) b in
     and_from (includes xs zs) (includes zs xs) (includes_trans xs ys zs p.0 q.0) (includes_trans zs ys xs q.1 p.1)
 
--- turned round and begun at one of them it still does
-transposed : (t cycle : List ℕ) (first : ℕ) → Member first t → GoesThrough t cycle → GoesThrough t (rotation_from first (reverse cycle))
-transposed t (a ∷ b ∷ c ∷ []) first m h =
+-- a cycle that is reversed and rotated has the same corners
+reversed_through : (t cycle : List ℕ) (first : ℕ) → Member first t → GoesThrough t cycle → GoesThrough t (rotation_from first (reverse cycle))
+reversed_through t (a ∷ b ∷ c ∷ []) first m h =
     let z : List ℕ = c ∷ b ∷ a ∷ [] in
     let back = same_trans z (a ∷ b ∷ c ∷ []) t (same_by z (a ∷ b ∷ c ∷ []) there here) h.same in
     let parts = and_parts (includes z t) (includes t z) back in
-    let s = begun first z refl (member_in z first (included z t first parts.0 m)) in
+    let s = rotation_from_is first z refl (member_in z first (included z t first parts.0 m)) in
     record { three = rotation_three z (rotation_from first z) s.one; same = same_trans (rotation_from first z) z t s.same back }
   where
     there : (x : ℕ) → Member x (c ∷ b ∷ a ∷ []) → Member x (a ∷ b ∷ c ∷ [])
@@ -115,16 +115,16 @@ transposed t (a ∷ b ∷ c ∷ []) first m h =
 
     here : (x : ℕ) → Member x (a ∷ b ∷ c ∷ []) → Member x (c ∷ b ∷ a ∷ [])
     here x m = grind arith
-transposed t [] first m h = absurd (omega (arith, h.three))
-transposed t (a ∷ []) first m h = absurd (omega (arith, h.three))
-transposed t (a ∷ b ∷ []) first m h = absurd (omega (arith, h.three))
-transposed t (a ∷ b ∷ c ∷ d ∷ xs) first m h = absurd (omega (arith, h.three))
+reversed_through t [] first m h = absurd (omega (arith, h.three))
+reversed_through t (a ∷ []) first m h = absurd (omega (arith, h.three))
+reversed_through t (a ∷ b ∷ []) first m h = absurd (omega (arith, h.three))
+reversed_through t (a ∷ b ∷ c ∷ d ∷ xs) first m h = absurd (omega (arith, h.three))
 
--- so both cycles of a face do
+-- both cycles of a face have its corners
 pub both_through : (mesh : MeshLists) → IsMesh (length mesh.points) (corner_lists mesh) → (face : ℕ) → face < count mesh Face → (flipped : Bool)
     → GoesThrough (corners mesh Face face) (if flipped then rotation_from (get_or (corners mesh Face face) 0 0) (reverse (face_cycle mesh face)) else face_cycle mesh face)
 both_through mesh is face l false = through mesh is face l
 both_through mesh is face l true =
     let t = corners mesh Face face in
     let f = face_is mesh face l in
-    transposed t (face_cycle mesh face) (get_or t 0 0) (member_at t 0 0 (omega (arith, f.three))) (through mesh is face l)
+    reversed_through t (face_cycle mesh face) (get_or t 0 0) (member_at t 0 0 (omega (arith, f.three))) (through mesh is face l)

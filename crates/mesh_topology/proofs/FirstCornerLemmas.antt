@@ -1,4 +1,4 @@
--- The sets that begin with each number, one number after the other.
+-- The sets with each first corner, in the order of first corners.
 use Rattle.std.proofs.Common.{◌≡◌, ◌↔◌, ◌⊎◌, ℕ, ◌+◌, ◌*◌, ◌/◌, ◌%◌, ◌<◌, ◌^◌, true, Bool, List, [], ◌∷◌, ◌++◌, length, map, take, get_or, filter, flat_map, All, AllPairs, Contains, refl, sym, ap, subst, ◌∙◌, inl, inr, arith, eqb-true, eq-eqb, ltb-true, lt-ltb}
 use Rattle.std.specs.List.{AllZip}
 use Rattle.std.proofs.lemmas.Bool.{cases_eq}
@@ -22,24 +22,24 @@ use Rattle.mesh_topology.proofs.LowerTableLemmas.{row_vertices}
 use Rattle.mesh_topology.proofs.UpperTableLemmas.{can_transpose}
 use Rattle.mesh_topology.proofs.TransposeLemmas.{transposed_at, transposed_length}
 
--- a row more
-pub keys_more : (rows : List (List ℕ)) (first : ℕ) (ids : List ℕ) (i : ℕ) (sets : List (List ℕ)) (mid new : List ℕ) → i < length ids → sets ≡ combinations 3 (get_or rows (get_or ids i 0) [])
+-- the next row
+pub keys_step : (rows : List (List ℕ)) (first : ℕ) (ids : List ℕ) (i : ℕ) (sets : List (List ℕ)) (mid new : List ℕ) → i < length ids → sets ≡ combinations 3 (get_or rows (get_or ids i 0) [])
     → mid ≡ keys_in rows first (take i ids) → new ≡ mid ++ map key (filter (begins_with first) sets) → new ≡ keys_in rows first (take (i + 1) ids)
-keys_more rows first ids i sets mid new l one so is =
+keys_step rows first ids i sets mid new l one so is =
     let f = λ (id : ℕ). map key (filter (begins_with first) (combinations 3 (get_or rows id []))) in
     is ∙ (ap (λ xs. xs ++ map key (filter (begins_with first) sets)) so ∙ (ap (λ xs. keys_in rows first (take i ids) ++ map key (filter (begins_with first) xs)) one
     ∙ (flat_map_more f [] (take i ids) (get_or ids i 0) ∙ ap (λ xs. keys_in rows first xs) (sym (take_more ids i 0 l)))))
 
--- what a set with a later first number comes behind
+-- a set with a smaller first corner is before one with a larger one
 before_later : (v : ℕ) (a b : List ℕ) → first_corner a < v → first_corner b ≡ v → Before a b
 before_later v a [] l e = absurd (omega arith)
 before_later v [] (y ∷ b) l e = refl
 before_later v (x ∷ a) (y ∷ b) l e = before_first x y a b (omega arith)
 
--- the sets of one number more
-pub table_more : (sets begun table block new : List (List ℕ)) (v : ℕ) → ((set : List ℕ) → Contains begun set ↔ (Contains sets set × (first_corner set ≡ v))) → IsTableBelow sets table v → IsTableOf begun block
+-- the sets with the next first corner
+pub table_step : (sets rotation_from_is table block new : List (List ℕ)) (v : ℕ) → ((set : List ℕ) → Contains rotation_from_is set ↔ (Contains sets set × (first_corner set ≡ v))) → IsTableBelow sets table v → IsTableOf rotation_from_is block
     → new ≡ table ++ block → IsTableBelow sets new (v + 1)
-table_more sets begun table block new v are so one is = subst (λ t. IsTableBelow sets t (v + 1)) (sym is) (record { ordered = ordered; members = λ set. (there set, back set) }) where
+table_step sets rotation_from_is table block new v are so one is = subst (λ t. IsTableBelow sets t (v + 1)) (sym is) (record { ordered = ordered; members = λ set. (there set, back set) }) where
   in_table : (set : List ℕ) → Member set table → Contains sets set × (first_corner set < v)
   in_table set m = (so.members set).0 (contained_member table set m)
 
@@ -61,7 +61,7 @@ table_more sets begun table block new v are so one is = subst (λ t. IsTableBelo
     | inr ne ↦ contained_member (table ++ block) set (member_left table block set (member_contained table set ((so.members set).1 (h.0, omega (arith, h.1)))))
   ]
 
--- the choices of rows that begin with a number are those of the rows that have it
+-- the combinations of rows that begin with a number are those of the rows that contain it
 begins : (size v : ℕ) (row set : List ℕ) → 0 < size → AllPairs (λ x y. x < y) row → Member set (combinations size row) → first_corner set ≡ v → is_in row v ≡ true
 begins size v row set some up m e = go set (combination_is size row set (pairs_of (λ x y. x < y) row up) m).size_is (combination_is size row set (pairs_of (λ x y. x < y) row up) m).inside e where
   go : (set : List ℕ) → length set ≡ size → ((x : ℕ) → Member x set → Member x row) → first_corner set ≡ v → is_in row v ≡ true
@@ -106,7 +106,7 @@ cells_of cells lists v h l k d m =
     let here = subst (λ xs. Member (get_or (get_or lists v []) k d) xs) ids (member_at (get_or lists v []) k d m) in
     range_below (length cells) (get_or (get_or lists v []) k d) (member_of_kept has (numbers 0 (length cells)) (get_or (get_or lists v []) k d) here).0
 
--- all numbers
+-- all first corners
 pub table_all : (size : ℕ) (cells lists table : List (List ℕ)) (v : ℕ) → 0 < size → AreVertexCells cells lists → v ≡ length lists → IsTableBelow (flat_map (combinations size) cells) table v
     → IsTableOf (flat_map (combinations size) cells) table
 table_all size cells lists table v some h e so = record { ordered = so.ordered; members = λ set. (λ c. ((so.members set).0 c).0, λ c. (so.members set).1 (c, below set c)) } where
@@ -121,27 +121,27 @@ table_all size cells lists table v some h e so = record { ordered = so.ordered; 
       let f = where_in.2 in
       omega arith
 
--- the lists of each number's rows
+-- for each vertex the rows that contain it
 pub cells_of_each : (cells lists : List (List ℕ)) (count : ℕ) → CanTranspose cells count → lists ≡ transposed cells count → count < 2 ^ 32 → AreVertexCells cells lists
 cells_of_each cells lists count can are few =
     let e : count ≡ length lists = sym (ap (λ xs. length xs) are ∙ transposed_length cells count) in
     record { can = subst (λ n. CanTranspose cells n) e can; are = are ∙ ap (λ n. transposed cells n) e; few = subst (λ n. n < 2 ^ 32) e few }
 
--- of the rows of all cells
+-- the same for the rows of all cells
 pub cells_of_vertices : (mesh : MeshLists) → IsSmallMesh mesh → (cells : List RawCell) (rows read lists : List (List ℕ)) (n : ℕ) → cells ≡ mesh.cells → AllZip AreSortedCorners cells rows → read ≡ rows
     → n ≡ count mesh Vertex → lists ≡ transposed read n → AreVertexCells rows lists
 cells_of_vertices mesh small cells rows read lists n same all e m are =
     let near = row_vertices mesh small.is_mesh rows (subst (λ cs. AllZip AreSortedCorners cs rows) same all) in
     cells_of_each rows lists n (can_transpose mesh small Cell Vertex rows n near m) (are ∙ ap (λ r. transposed r n) e) (subst (λ k. k < 2 ^ 32) (sym m) (small.fits Vertex))
 
--- the corners of one cell more that are above a number
-pub above_more : (rows : List (List ℕ)) (low : ℕ) (ids : List ℕ) (i : ℕ) (mid new : List ℕ) → i < length ids → mid ≡ members_above rows low (take i ids)
+-- the corners of the next cell that are above a number
+pub above_step : (rows : List (List ℕ)) (low : ℕ) (ids : List ℕ) (i : ℕ) (mid new : List ℕ) → i < length ids → mid ≡ members_above rows low (take i ids)
     → new ≡ mid ++ filter (is_above low) (get_or rows (get_or ids i 0) []) → new ≡ members_above rows low (take (i + 1) ids)
-above_more rows low ids i mid new l so is =
+above_step rows low ids i mid new l so is =
     let f = λ (id : ℕ). filter (is_above low) (get_or rows id []) in
     is ∙ (ap (λ xs. xs ++ f (get_or ids i 0)) so ∙ (flat_map_more f [] (take i ids) (get_or ids i 0) ∙ ap (λ xs. members_above rows low xs) (sym (take_more ids i 0 l))))
 
--- the pairs of a number and those above it are the choices that begin with it
+-- the pairs of a corner with the larger ones are the combinations that begin with it
 pub pairs_above : (cells lists : List (List ℕ)) (v : ℕ) (above : List ℕ) → AreVertexCells cells lists → v < length lists → IsSetOf (members_above cells v (get_or lists v [])) above
     → IsTableOf (combinations_from 2 cells v (get_or lists v [])) (map (pair v) above)
 pairs_above cells lists v above h l is = record { ordered = ordered; members = λ set. (there set, back set) } where
@@ -204,7 +204,7 @@ pairs_above cells lists v above h l is = record { ordered = ordered; members = �
           let here = member_contained above y ((is.members y).1 (contained_member (members_above cells v (get_or lists v [])) y flat)) in
           subst (λ n. Contains (map (pair v) above) (n ∷ y ∷ [])) (sym e) (contained_member (map (pair v) above) (v ∷ y ∷ []) (member_map (pair v) above y here))
 
--- the triples of a number that have some keys are the choices that begin with it
+-- the triples of a corner with these keys are the combinations that begin with it
 key_less : (x y : ℕ) → x < y → (x / 2 ^ 32 < y / 2 ^ 32) ⊎ ((x / 2 ^ 32 ≡ y / 2 ^ 32) × (x % 2 ^ 32 < y % 2 ^ 32))
 key_less x y l =
     let under_x : x % 2 ^ 32 < 2 ^ 32 = mod-lt x (omega arith) in

@@ -1,4 +1,4 @@
--- The tables of what lies in each element are those of the definitions.
+-- The lower tables are those of the definitions.
 use Rattle.std.proofs.Common.{◌≡◌, ℕ, ◌<◌, ◌≤◌, true, List, [], length, get_or, refl, sym, ap, subst, ◌∙◌, arith, ltb-true, nat_lt}
 use Rattle.std.specs.List.{All, AllZip}
 use Rattle.std.proofs.lemmas.List.{ext_get_or, get_or-map, length-map}
@@ -14,7 +14,7 @@ use Rattle.mesh_topology.proofs.RankLemmas.{element_is}
 use Rattle.mesh_topology.proofs.FaceEdgeLemmas.{placed}
 use Rattle.mesh_topology.proofs.CombinationLemmas.{IsAscending, combination_is}
 use Rattle.mesh_topology.proofs.ListLemmas.{zip_at, zip_length}
-use Rattle.mesh_topology.proofs.NearLemmas.{long_numbers, at_numbers, more_left, rising_is, cell_is, ranks_kept, vertices_kept, AreRows, are_rows, in_cell}
+use Rattle.mesh_topology.proofs.NearLemmas.{long_numbers, at_numbers, more_left, corner_set_is, cell_is, ranks_kept, vertices_kept, AreRows, are_rows, in_cell}
 
 -- NEAR LISTS OF ALL ELEMENTS
 
@@ -41,7 +41,7 @@ rising_vertices : (mesh : MeshLists) (kind : Kind) (size : ℕ) → HasCorners k
 rising_vertices mesh kind size h two test = near_lists_are mesh kind Vertex (elements mesh kind) refl at where
   at : (id : ℕ) → id < count mesh kind → corners mesh kind id ≡ near mesh kind id Vertex
   at id l =
-      let e = rising_is mesh kind size h id l in
+      let e = corner_set_is mesh kind size h id l in
       vertices_kept mesh (corners mesh kind id) (corners mesh kind id) e.different (omega (arith, e.size_is)) e.below e.ascending (λ x m. m) (λ x m. m) (is_incident mesh kind id Vertex) (λ v k. test id v)
 
 pub edge_vertices : (mesh : MeshLists) → elements mesh Edge ≡ near_lists mesh Edge Vertex
@@ -50,7 +50,7 @@ edge_vertices mesh = rising_vertices mesh Edge 2 refl (omega arith) (λ id y. re
 pub face_vertices : (mesh : MeshLists) → elements mesh Face ≡ near_lists mesh Face Vertex
 face_vertices mesh = rising_vertices mesh Face 3 refl (omega arith) (λ id y. refl)
 
--- those of a cell are its corners in ascending order
+-- the vertices of a cell are its corners in ascending order
 pub cell_vertices : (mesh : MeshLists) → IsMesh (length mesh.points) (corner_lists mesh) → (rows : List (List ℕ)) → AreRows mesh rows → rows ≡ near_lists mesh Cell Vertex
 cell_vertices mesh is rows are = near_lists_are mesh Cell Vertex rows are.length_is at where
   at : (id : ℕ) → id < count mesh Cell → get_or rows id [] ≡ near mesh Cell id Vertex
@@ -59,13 +59,13 @@ cell_vertices mesh is rows are = near_lists_are mesh Cell Vertex rows are.length
       let r = are.row id l in
       vertices_kept mesh (corners mesh Cell id) (get_or rows id []) c.1 (omega (arith, c.0)) (λ x m. ltb-true x (length mesh.points) (all_at (λ v. nat_lt v (length mesh.points)) (corners mesh Cell id) x c.2 m)) r.ascending r.out r.back (is_incident mesh Cell id Vertex) (λ v k. refl)
 
--- from the table of these
+-- from the table of sorted corners
 pub row_vertices : (mesh : MeshLists) → IsMesh (length mesh.points) (corner_lists mesh) → (rows : List (List ℕ)) → AllZip AreSortedCorners mesh.cells rows → rows ≡ near_lists mesh Cell Vertex
 row_vertices mesh is rows all = cell_vertices mesh is rows (are_rows mesh is rows all)
 
 -- EDGES AND FACES
 
--- all choices of a face's corners are edges
+-- all pairs of corners of a face are edges
 pub face_has : (mesh : MeshLists) → IsMesh (length mesh.points) (corner_lists mesh) → (faces edges : List (List ℕ)) → faces ≡ elements mesh Face → edges ≡ elements mesh Edge
     → All (HasCombinations 2 edges) faces
 face_has mesh is faces edges e f = subst (λ fs. All (HasCombinations 2 edges) fs) (sym e) (subst (λ es. All (HasCombinations 2 es) (elements mesh Face)) (sym f) has) where
@@ -77,7 +77,7 @@ face_has mesh is faces edges e f = subst (λ fs. All (HasCombinations 2 edges) f
       let one = any_found (λ corners. includes corners face) (corner_lists mesh) r.2 in
       let p = placed (corner_lists mesh) one.0 [] one.1 in
       let at = placed (elements mesh Face) face [] m in
-      let ascending = subst (λ s. IsAscending s) at.2 (rising_is mesh Face 3 refl at.0 at.1).ascending in
+      let ascending = subst (λ s. IsAscending s) at.2 (corner_set_is mesh Face 3 refl at.0 at.1).ascending in
       let choice = combination_is 2 face set ascending (member_contained (combinations 2 face) set c) in
       let out = λ (x : ℕ) (k : Member x face). subst (λ cs. Member x cs) (sym p.2) (included one.0 face x one.2 k) in
       contained_member (elements mesh Edge) set (in_cell mesh is p.0 p.1 Edge 2 refl face set choice out)
@@ -91,11 +91,11 @@ face_edges mesh faces edges rows e f all = near_lists_are mesh Face Edge rows le
 
   at : (id : ℕ) → id < count mesh Face → get_or rows id [] ≡ near mesh Face id Edge
   at id l =
-      let h = rising_is mesh Face 3 refl id l in
+      let h = corner_set_is mesh Face 3 refl id l in
       let z = zip_at (λ corners ids. AreRanks edges (combinations 2 corners) ids) faces rows id [] [] all (subst (λ fs. id < length fs) (sym e) l) in
       let y = subst (λ es. AreRanks es (combinations 2 (get_or faces id [])) (get_or rows id [])) f z in
       let x = subst (λ fs. AreRanks (elements mesh Edge) (combinations 2 (get_or fs id [])) (get_or rows id [])) e y in
       ranks_kept mesh Edge 2 refl (corners mesh Face id) (get_or rows id []) h.ascending x (is_incident mesh Face id Edge) (test h.different h.size_is)
     where
       test : are_different (corners mesh Face id) ≡ true → length (corners mesh Face id) ≡ 3 → (y : ℕ) → y < count mesh Edge → is_incident mesh Face id Edge y ≡ includes (corners mesh Face id) (corners mesh Edge y)
-      test d three y k = let g = rising_is mesh Edge 2 refl y k in more_left (corners mesh Face id) (corners mesh Edge y) d (omega (arith, three, g.size_is))
+      test d three y k = let g = corner_set_is mesh Edge 2 refl y k in more_left (corners mesh Face id) (corners mesh Edge y) d (omega (arith, three, g.size_is))

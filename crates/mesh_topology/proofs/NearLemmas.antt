@@ -1,4 +1,4 @@
--- The ids near an element: which list is the one of the definitions.
+-- The ids near an element, and the corners of elements.
 use Rattle.std.proofs.Common.{◌≡◌, ℕ, zero, suc, ◌+◌, ◌-◌, ◌<◌, ◌≤◌, ◌||◌, Bool, true, false, List, [], ◌∷◌, map, length, get_or, filter}
 use Rattle.std.proofs.Common.{flat_map, refl, sym, ap, subst, ◌∙◌, inl, inr, arith, ltb-true, cond, nat_lt}
 use Rattle.std.specs.List.{range_with_len, AllZip}
@@ -18,25 +18,25 @@ use Rattle.mesh_topology.proofs.MemberLemmas.{contained_member, member_contained
 use Rattle.mesh_topology.proofs.MemberLemmas.{Member, included, includes_by, member_at, member_kept, member_of_kept, member_range, member_ranged, member_map, member_mapped, no_longer}
 use Rattle.mesh_topology.proofs.OrderLemmas.{Pairs, bounds, rising_pairs, between_pairs, different, Before, not_before_itself}
 use Rattle.mesh_topology.proofs.RankLemmas.{ordered, element_is, is_element, each_at}
-use Rattle.mesh_topology.proofs.CombinationLemmas.{IsAscending, IsChoice, combination_is, is_combination, choices_ordered}
+use Rattle.mesh_topology.proofs.CombinationLemmas.{IsAscending, IsCombination, combination_is, is_combination, choices_ordered}
 use Rattle.mesh_topology.proofs.ListLemmas.{same_list, not_both_before, same_table, zip_length, zip_at, no_cell}
 use Rattle.mesh_topology.proofs.FaceEdgeLemmas.{placed}
 
 -- NUMBERS BELOW A BOUND THAT PASS A TEST
 
--- a number is below n exactly where it is one of the numbers below n
+-- a number is below n if and only if it is a member of `numbers 0 n`
 pub below_range : (n x : ℕ) → x < n → Member x (numbers 0 n)
 below_range n x l = member_range 0 (n - 0) x (omega arith) (omega arith)
 
 pub range_below : (n x : ℕ) → Member x (numbers 0 n) → x < n
 range_below n x m = let r = member_ranged 0 (n - 0) x m in omega arith
 
--- numbers from a on rise
+-- ranges are ascending
 range_rises : (a n : ℕ) → IsAscending (range_with_len a n)
 range_rises a zero = tt
 range_rises a (suc n) = (λ y m. let r = member_ranged (a + 1) n y m in omega arith, range_rises (a + 1) n)
 
--- what is kept of a rising list rises
+-- a filtered ascending list is ascending
 pub kept_rises : (p : ℕ → Bool) (xs : List ℕ) → IsAscending xs → IsAscending (filter p xs)
 kept_rises p [] r = tt
 kept_rises p (x ∷ xs) r = go (p x) (kept_rises p xs r.1) where
@@ -44,15 +44,15 @@ kept_rises p (x ∷ xs) r = go (p x) (kept_rises p xs r.1) where
   go true k = (λ y m. r.0 y (member_of_kept p xs y m).0, k)
   go false k = k
 
--- what a list of numbers below a bound that pass a test is
-pub record IsKept (p : ℕ → Bool) (n : ℕ) (xs : List ℕ) : Type 0 where
+-- the ascending list of the numbers below n that pass a test
+pub record IsFilter (p : ℕ → Bool) (n : ℕ) (xs : List ℕ) : Type 0 where
   pub ascending : IsAscending xs
   pub inside : (x : ℕ) → Member x xs → (x < n) × (p x ≡ true)
   pub all : (x : ℕ) → x < n → p x ≡ true → Member x xs
 
--- the list that is kept is that
-pub kept_is : (p : ℕ → Bool) (n : ℕ) → IsKept p n (filter p (numbers 0 n))
-kept_is p n = record {
+-- the filtered range is that list
+pub filter_is : (p : ℕ → Bool) (n : ℕ) → IsFilter p n (filter p (numbers 0 n))
+filter_is p n = record {
   ascending = kept_rises p (numbers 0 n) (range_rises 0 (n - 0));
   inside = λ x m. (let k = member_of_kept p (numbers 0 n) x m in (range_below n x k.0, k.1));
   all = λ x l h. member_kept p (numbers 0 n) x (below_range n x l) h;
@@ -61,10 +61,10 @@ kept_is p n = record {
 below_apart : (x y : ℕ) → x < y → y < x → ⊥
 below_apart x y l m = omega arith
 
--- and no other list is
-pub is_kept : (p : ℕ → Bool) (n : ℕ) (xs : List ℕ) → IsKept p n xs → xs ≡ filter p (numbers 0 n)
-is_kept p n xs k =
-    let f = kept_is p n in
+-- and no other list is that
+pub is_filter : (p : ℕ → Bool) (n : ℕ) (xs : List ℕ) → IsFilter p n xs → xs ≡ filter p (numbers 0 n)
+is_filter p n xs k =
+    let f = filter_is p n in
     same_list (λ x y. x < y) below_apart xs (filter p (numbers 0 n)) k.ascending f.ascending
     (λ x m. let i = k.inside x m in f.all x i.0 i.1) (λ x m. let i = f.inside x m in k.all x i.0 i.1)
 
@@ -92,7 +92,7 @@ at_numbers n k d l = at_range 0 (n - 0) k d (omega arith) ∙ omega arith
 pub vertex_count : (mesh : MeshLists) → count mesh Vertex ≡ length mesh.points
 vertex_count mesh = ap (λ xs. length xs) (singles (length mesh.points)) ∙ (length-map (numbers 0 (length mesh.points)) (λ v. v ∷ []) ∙ long_numbers (length mesh.points))
 
--- there are as many as points
+-- the number of vertices is that of points
 pub vertices_are : (mesh : MeshLists) (points : List Point) → points ≡ mesh.points → length points ≡ count mesh Vertex
 vertices_are mesh points e = ap (λ ps. length ps) e ∙ sym (vertex_count mesh)
 
@@ -104,11 +104,11 @@ vertex_is mesh v l =
 
 -- INCLUSION
 
--- fewer corners don't include more
+-- fewer corners do not include more
 pub not_more : (a b : List ℕ) → are_different b ≡ true → length a < length b → includes a b ≡ false
 not_more a b d l = false_from_ne_true (includes a b) (λ i. let n = no_longer b a d (λ x m. included a b x i m) in omega arith)
 
--- so where two elements differ in the number of their corners one test is enough
+-- for elements with different numbers of corners one test of inclusion is enough
 pub more_left : (a b : List ℕ) → are_different a ≡ true → length b < length a → one_includes_other a b ≡ includes a b
 more_left a b d l = rw (not_more b a d l) (go (includes a b)) where
   go : (t : Bool) → (t || false) ≡ t
@@ -120,16 +120,16 @@ more_right a b d l = rw (not_more a b d l) refl
 
 -- ELEMENTS
 
--- an edge or a face of so many corners
-pub record IsRising (points size : ℕ) (set : List ℕ) : Type 0 where
+-- an edge or a face with `size` corners
+pub record IsCornerSet (points size : ℕ) (set : List ℕ) : Type 0 where
   pub size_is : length set ≡ size
   pub ascending : IsAscending set
   pub different : are_different set ≡ true
   pub below : (x : ℕ) → Member x set → x < points
 
-pub rising_is : (mesh : MeshLists) (kind : Kind) (size : ℕ) → HasCorners kind size → (id : ℕ) → id < count mesh kind
-    → IsRising (length mesh.points) size (corners mesh kind id)
-rising_is mesh kind size h id l =
+pub corner_set_is : (mesh : MeshLists) (kind : Kind) (size : ℕ) → HasCorners kind size → (id : ℕ) → id < count mesh kind
+    → IsCornerSet (length mesh.points) size (corners mesh kind id)
+corner_set_is mesh kind size h id l =
     let e = element_is mesh kind size h (corners mesh kind id) (member_at (elements mesh kind) id [] l) in
     record {
       size_is = e.0;
@@ -143,11 +143,11 @@ pub cell_is : (mesh : MeshLists) → IsMesh (length mesh.points) (corner_lists m
     → IsCell (length mesh.points) (corners mesh Cell cell)
 cell_is mesh is cell l = each_at (IsCell (length mesh.points)) (corner_lists mesh) (corners mesh Cell cell) is.each (member_at (corner_lists mesh) cell [] l)
 
--- there are as many as lines
+-- the number of cells is that of lines
 pub cell_count : (mesh : MeshLists) → count mesh Cell ≡ length mesh.cells
 cell_count mesh = length-map mesh.cells (λ cell. cell.corners)
 
--- elements stand in lexicographic order, so of two of them the lower id is that of the earlier one
+-- elements are in lexicographic order, so the earlier one of two has the smaller id
 lower_id : (mesh : MeshLists) (kind : Kind) (size : ℕ) → HasCorners kind size → (x y : ℕ) → x < count mesh kind → y < count mesh kind
     → Before (corners mesh kind x) (corners mesh kind y) → x < y
 lower_id mesh kind size h x y l k b = elim (cases_order x y) [
@@ -156,7 +156,7 @@ lower_id mesh kind size h x y l k b = elim (cases_order x y) [
   | inr (inr m) ↦ absurd (not_both_before (corners mesh kind x) (corners mesh kind y) b (ordered mesh kind size h y x [] m l))
 ]
 
--- and no two have the same corners
+-- no two elements have the same corners
 one_id : (mesh : MeshLists) (kind : Kind) (size : ℕ) → HasCorners kind size → (x y : ℕ) → x < count mesh kind → y < count mesh kind
     → corners mesh kind x ≡ corners mesh kind y → x ≡ y
 one_id mesh kind size h x y l k e = elim (cases_order x y) [
@@ -165,7 +165,7 @@ one_id mesh kind size h x y l k e = elim (cases_order x y) [
   | inr (inr m) ↦ absurd (not_before_itself (corners mesh kind y) (subst (λ v. Before (corners mesh kind y) v) e (ordered mesh kind size h y x [] m l)))
 ]
 
--- what stands in an order by its values
+-- order by the images of a function
 pairs_back : {A B : Type 0} (R : A → A → Type 0) (S : B → B → Type 0) (f : A → B) (xs : List A)
     → ((x y : A) → Member x xs → Member y xs → S (f x) (f y) → R x y) → Pairs S (map f xs) → Pairs R xs
 pairs_back R S f [] h p = tt
@@ -174,11 +174,11 @@ pairs_back R S f (x ∷ xs) h p = (
   pairs_back R S f xs (λ z w m n. h z w (inr m) (inr n)) p.1,
 )
 
--- the ids of all choices of some corners are those of the elements that these corners include
+-- the ids of all combinations of some corners are those of the elements that these corners include
 pub ranks_kept : (mesh : MeshLists) (kind : Kind) (size : ℕ) → HasCorners kind size → (cs ids : List ℕ) → IsAscending cs
     → AreRanks (elements mesh kind) (combinations size cs) ids → (test : ℕ → Bool)
     → ((y : ℕ) → y < count mesh kind → test y ≡ includes cs (corners mesh kind y)) → ids ≡ filter test (numbers 0 (count mesh kind))
-ranks_kept mesh kind size h cs ids r ranks test same = is_kept test (count mesh kind) ids (record { ascending = ascending; inside = inside; all = all }) where
+ranks_kept mesh kind size h cs ids r ranks test same = is_filter test (count mesh kind) ids (record { ascending = ascending; inside = inside; all = all }) where
   below : (y : ℕ) → Member y ids → y < count mesh kind
   below y m = ranks.below y (contained_member ids y m)
 
@@ -195,7 +195,7 @@ ranks_kept mesh kind size h cs ids r ranks test same = is_kept test (count mesh 
 
   all : (y : ℕ) → y < count mesh kind → test y ≡ true → Member y ids
   all y l t =
-      let e = rising_is mesh kind size h y l in
+      let e = corner_set_is mesh kind size h y l in
       let i : includes cs (corners mesh kind y) ≡ true = sym (same y l) ∙ t in
       let c = is_combination size cs (corners mesh kind y) r (record { size_is = e.size_is; ascending = e.ascending; inside = λ x m. included cs (corners mesh kind y) x i m }) in
       let m = member_mapped (λ y. corners mesh kind y) ids (corners mesh kind y) (subst (λ s. Member (corners mesh kind y) s) (sym ranks.are) c) in
@@ -205,7 +205,7 @@ ranks_kept mesh kind size h cs ids r ranks test same = is_kept test (count mesh 
 pub vertices_kept : (mesh : MeshLists) (cs row : List ℕ) → are_different cs ≡ true → 2 ≤ length cs → ((x : ℕ) → Member x cs → x < length mesh.points)
     → IsAscending row → ((x : ℕ) → Member x row → Member x cs) → ((x : ℕ) → Member x cs → Member x row) → (test : ℕ → Bool)
     → ((v : ℕ) → v < count mesh Vertex → test v ≡ one_includes_other cs (corners mesh Vertex v)) → row ≡ filter test (numbers 0 (count mesh Vertex))
-vertices_kept mesh cs row d two below ascending out back test same = is_kept test (count mesh Vertex) row (record { ascending = ascending; inside = inside; all = all }) where
+vertices_kept mesh cs row d two below ascending out back test same = is_filter test (count mesh Vertex) row (record { ascending = ascending; inside = inside; all = all }) where
   test_is : (v : ℕ) → v < count mesh Vertex → test v ≡ includes cs (v ∷ [])
   test_is v l =
       let v_is = vertex_is mesh v (subst (λ n. v < n) (vertex_count mesh) l) in
@@ -287,9 +287,9 @@ are_rows mesh is rows all = record { length_is = sym (zip_length AreSortedCorner
       let e : corners mesh Cell cell ≡ (get_or mesh.cells cell no_cell).corners = get_or-map (λ cell. cell.corners) mesh.cells cell no_cell [] k in
       row_is (length mesh.points) (corners mesh Cell cell) (get_or rows cell []) (cell_is mesh is cell l) z.ascending (subst (λ cs. IsPermutation cs (get_or rows cell [])) (sym e) z.permutes)
 
--- a rising list of corners of a cell is an element
+-- an ascending list of corners of a cell is an element
 pub in_cell : (mesh : MeshLists) → IsMesh (length mesh.points) (corner_lists mesh) → (cell : ℕ) → cell < count mesh Cell → (kind : Kind) (size : ℕ) → HasCorners kind size
-    → (cs set : List ℕ) → IsChoice size cs set → ((x : ℕ) → Member x cs → Member x (corners mesh Cell cell)) → Member set (elements mesh kind)
+    → (cs set : List ℕ) → IsCombination size cs set → ((x : ℕ) → Member x cs → Member x (corners mesh Cell cell)) → Member set (elements mesh kind)
 in_cell mesh is cell l kind size h cs set c out =
     let all = corners mesh Cell cell in
     let inside = λ (x : ℕ) (n : Member x set). out x (c.inside x n) in
@@ -298,7 +298,7 @@ in_cell mesh is cell l kind size h cs set c out =
     let in_a_cell = any_by (λ corners. includes corners set) (corner_lists mesh) all (member_at (corner_lists mesh) cell [] l) (includes_by all set inside) in
     is_element mesh kind size h set c.size_is between in_a_cell
 
--- each element is a choice from a row
+-- each element is a combination of a row
 pub table_members : (mesh : MeshLists) → IsMesh (length mesh.points) (corner_lists mesh) → (rows : List (List ℕ)) → AreRows mesh rows → (kind : Kind) (size : ℕ)
     → HasCorners kind size → (set : List ℕ) → Member set (elements mesh kind) → Member set (flat_map (combinations size) rows)
 table_members mesh is rows are kind size h set m =
@@ -310,7 +310,7 @@ table_members mesh is rows are kind size h set m =
     let c = is_combination size (get_or rows p.0 []) set r.ascending (record { size_is = e.0; ascending = rising_pairs 0 (length mesh.points) set e.1; inside = λ x n. r.back x (included (corners mesh Cell p.0) set x i n) }) in
     member_flat (combinations size) rows (get_or rows p.0 []) set (member_at rows p.0 [] (omega (arith, are.length_is, p.1))) c
 
--- so the table of the choices from all rows is that of the elements
+-- the table of the combinations of all rows is that of the elements
 pub table_is : (mesh : MeshLists) → IsMesh (length mesh.points) (corner_lists mesh) → (rows : List (List ℕ)) → AreRows mesh rows → (kind : Kind) (size : ℕ)
     → HasCorners kind size → (table : List (List ℕ)) → IsTableOf (flat_map (combinations size) rows) table → table ≡ elements mesh kind
 table_is mesh is rows are kind size h table t =

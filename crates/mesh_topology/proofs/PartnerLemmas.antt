@@ -1,4 +1,4 @@
--- The others on the lists that have an id, one list after the other.
+-- The other ids on the lists that contain an id, list by list.
 use Rattle.std.proofs.Common.{◌≡◌, ℕ, ◌+◌, ◌<◌, ◌≤◌, true, false, cond, Bool, List, [], ◌∷◌, ◌++◌, length, set, get_or, filter, replicate, All, refl, sym, ap, subst, ◌∙◌, inl, inr, arith, length-append}
 use Rattle.std.proofs.lemmas.Bool.{false_from_ne_true}
 use Rattle.std.proofs.lemmas.List.{append-nil, flat_map_more, get_or-replicate, get_or-set_same, get_or-set_other, length-replicate, length-set}
@@ -6,9 +6,9 @@ use Rattle.std.proofs.lemmas.Option.{slice_get-get_or}
 use Rattle.liszt_base.specs.Corners.{is_in}
 use Rattle.mesh_topology.specs.Internal.Incidence.{differs_from, other_members, transposed, AreNeighbourSets, AreOthersAppended, AreOthersSoFar, IsSetOf}
 use Rattle.mesh_topology.proofs.MemberLemmas.{Member, in_member, member_in}
-use Rattle.mesh_topology.proofs.NeighbourLemmas.{beside_more}
-use Rattle.mesh_topology.proofs.NearLemmas.{kept_is}
-use Rattle.mesh_topology.proofs.TransposeLemmas.{fewer, transposed_at, transposed_length, with, with_more}
+use Rattle.mesh_topology.proofs.NeighbourLemmas.{neighbours_step}
+use Rattle.mesh_topology.proofs.NearLemmas.{filter_is}
+use Rattle.mesh_topology.proofs.TransposeLemmas.{fewer, transposed_at, transposed_length, with, with_step}
 use Rattle.mesh_topology.proofs.UpperTableLemmas.{differs_from_by, other_is}
 
 -- no lists
@@ -18,7 +18,7 @@ others_none lists count rows is = record {
   at = λ y l. ap (λ xs. get_or xs y []) is ∙ get_or-replicate count y [] [] l;
 }
 
--- a list more
+-- the next list
 pub others_joined : (lists : List (List ℕ)) (count id : ℕ) (mid new : List (List ℕ)) → AreOthersSoFar lists count id mid → AreOthersAppended (get_or lists id []) mid new → AreOthersSoFar lists count (id + 1) new
 others_joined lists count id mid new so partners = record { length_is = partners.length_is ∙ so.length_is; at = at } where
   go : (y : ℕ) (b : Bool) (front : List ℕ) → cond b (other_members y lists front ++ filter (differs_from y) (get_or lists id [])) (other_members y lists front) ≡ other_members y lists (cond b (front ++ id ∷ []) front)
@@ -28,7 +28,7 @@ others_joined lists count id mid new so partners = record { length_is = partners
   at : (y : ℕ) → y < count → get_or new y [] ≡ other_members y lists (with lists y (id + 1))
   at y l =
       partners.at y (omega (arith, so.length_is)) ∙ (ap (λ xs. cond (is_in (get_or lists id []) y) (xs ++ filter (differs_from y) (get_or lists id [])) xs) (so.at y l)
-      ∙ (go y (is_in (get_or lists id []) y) (with lists y id) ∙ ap (λ xs. other_members y lists xs) (sym (with_more lists y id))))
+      ∙ (go y (is_in (get_or lists id []) y) (with lists y id) ∙ ap (λ xs. other_members y lists xs) (sym (with_step lists y id))))
 
 not_other : (y z : ℕ) → z ≡ y → differs_from y z ≡ false
 not_other y z e = false_from_ne_true (differs_from y z) (λ h. other_is y z h (sym e))
@@ -39,7 +39,7 @@ left_out y z e xs = ap (λ b. cond b (z ∷ filter (differs_from y) xs) (filter 
 left_in : (y z : ℕ) → (y ≡ z → ⊥) → (xs : List ℕ) → filter (differs_from y) (z ∷ xs) ≡ z ∷ filter (differs_from y) xs
 left_in y z ne xs = ap (λ b. cond b (z ∷ filter (differs_from y) xs) (filter (differs_from y) xs)) (differs_from_by y z ne)
 
--- on lists of two that have an id there is one other each
+-- each list of two ids that contains an id has one other
 others_few : (lists : List (List ℕ)) (y : ℕ) (front : List ℕ) → All (λ list. length list ≤ 2) lists → ((id : ℕ) → Member id front → (id < length lists) × (is_in (get_or lists id []) y ≡ true))
     → length (other_members y lists front) ≤ length front
 others_few lists y [] two has = omega arith
@@ -66,25 +66,25 @@ others_few lists y (id ∷ front) two has =
     one_other y (a ∷ b ∷ []) l (inr (inr m)) = absurd m
     one_other y (a ∷ b ∷ c ∷ xs) l m = absurd (omega arith)
 
--- where a list names ids there is room for one other each
+-- the rows of the ids of a list are not full
 pub others_for : (lists : List (List ℕ)) (count most id : ℕ) (list : List ℕ) (rows : List (List ℕ)) → AreOthersSoFar lists count id rows → All (λ list. length list ≤ 2) lists
     → All (λ row. length row ≤ most) (transposed lists count) → id < length lists → get_or lists id [] ≡ list → All (λ y. y < count) list → All (λ y. length (get_or rows y []) < most) list
 others_for lists count most id list rows so two few l e below k d m =
     let y = get_or list k d in
     let f = fewer lists count most id list few l e below k d m in
     let g = ap (λ xs. length xs) (so.at y (below k d m)) in
-    let kept = kept_is (λ x. is_in (get_or lists x []) y) id in
+    let kept = filter_is (λ x. is_in (get_or lists x []) y) id in
     let o = others_few lists y (with lists y id) two (λ x n. let i = kept.inside x n in (omega (arith, i.0, l), i.1)) in
     omega arith
 
--- a set more
-pub joined_more : (lists : List (List ℕ)) (count id : ℕ) (rows all : List (List ℕ)) (others : List ℕ) (new : List (List ℕ)) → AreOthersSoFar lists count (length lists) rows → id < count
+-- the next set
+pub joined_step : (lists : List (List ℕ)) (count id : ℕ) (rows all : List (List ℕ)) (others : List ℕ) (new : List (List ℕ)) → AreOthersSoFar lists count (length lists) rows → id < count
     → AreNeighbourSets (transposed lists count) lists id all → IsSetOf (get_or rows id []) others → new ≡ all ++ others ∷ [] → AreNeighbourSets (transposed lists count) lists (id + 1) new
-joined_more lists count id rows all others new are l so one is =
+joined_step lists count id rows all others new are l so one is =
     let through = sym (transposed_at lists count id l) in
     let row = are.at id l ∙ ap (λ xs. other_members id lists xs) through in
     let read = slice_get-get_or (transposed lists count) id [] (omega (arith, transposed_length lists count)) in
-    beside_more (transposed lists count) lists id all (get_or (transposed lists count) id []) others new so read (subst (λ xs. IsSetOf xs others) row one) is
+    neighbours_step (transposed lists count) lists id all (get_or (transposed lists count) id []) others new so read (subst (λ xs. IsSetOf xs others) row one) is
 
 -- a list of fewer than two has no others
 pub joined_none : (list : List ℕ) (old : List (List ℕ)) → length list < 2 → AreOthersAppended list old old
@@ -100,7 +100,7 @@ joined_none list old l = record { length_is = refl; at = λ y m. sym (at y list 
       | inr none ↦ absurd none
     ]
 
--- of two each gets the other
+-- each id of a list of two has the other one appended
 pub joined_two : (x y : ℕ) (old mid new : List (List ℕ)) → x < y → x < length old → y < length old → mid ≡ set old x (get_or old x [] ++ y ∷ []) → new ≡ set mid y (get_or mid y [] ++ x ∷ [])
     → AreOthersAppended (x ∷ y ∷ []) old new
 joined_two x y old mid new r lx ly first second = record { length_is = length_is; at = at } where

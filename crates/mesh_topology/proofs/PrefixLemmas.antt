@@ -1,4 +1,4 @@
--- The fronts of rows.
+-- Prefixes of rows.
 use Rattle.std.proofs.Common.{◌≡◌, ℕ, ◌+◌, ◌<◌, ◌≤◌, ◌^◌, List, [], ◌∷◌, ◌++◌, length, set, take, get_or, slice_get, Some, replicate, sym, ap, subst, ◌∙◌, inl, inr, arith}
 use Rattle.std.proofs.lemmas.Bool.{cases_eq}
 use Rattle.std.proofs.lemmas.List.{ext_get_or, get_or-replicate, get_or-set_same, get_or-set_other, length-set, length-replicate, length-take-le, take_more_set}
@@ -12,7 +12,7 @@ prefix_at counts rows i l = get_or-map-range_with_len (λ i. take (get_or counts
 pub prefixes_length : (counts : List ℕ) (rows : List (List ℕ)) → length (prefixes counts rows) ≡ length counts
 prefixes_length counts rows = length-map-range_with_len (λ i. take (get_or counts i 0) (get_or rows i [])) 0 (length counts)
 
--- empty fronts
+-- empty prefixes
 pub none_inside : (size count : ℕ) (counts : List ℕ) (rows : List (List ℕ)) (row : List ℕ) → size < 2 ^ 8 → counts ≡ replicate count 0 → rows ≡ replicate count row → length row ≡ size → AreRowCounts size counts rows
 none_inside size count counts rows row few is are wide = record {
   few = few;
@@ -34,7 +34,7 @@ no_prefixes counts rows count is = ext_get_or [] (prefixes counts rows) (replica
       let zero = ap (λ xs. get_or xs i 0) is ∙ get_or-replicate count i 0 0 k in
       prefix_at counts rows i (omega (arith, length_is)) ∙ (ap (λ n. take n (get_or rows i [])) zero ∙ sym (get_or-replicate count i [] [] k))
 
--- what is read of a front, and what a write behind it needs
+-- the reads of a prefix, and the write at its end, are within the row
 pub record IsRowPrefix (size : ℕ) (lists : List (List ℕ)) (counts : List ℕ) (rows : List (List ℕ)) (i : ℕ) : Type 0 where
   pub counted : i < length counts
   pub below : i < length rows
@@ -58,14 +58,14 @@ front size lists counts rows i is so below = record {
   at : get_or lists i [] ≡ take (get_or counts i 0) (get_or rows i [])
   at = ap (λ ls. get_or ls i []) (sym is) ∙ prefix_at counts rows i l
 
--- an id more
-pub record IsLonger (size : ℕ) (lists : List (List ℕ)) (counts : List ℕ) (rows : List (List ℕ)) (list id : ℕ) : Type 0 where
+-- an id appended
+pub record IsPrefixPush (size : ℕ) (lists : List (List ℕ)) (counts : List ℕ) (rows : List (List ℕ)) (list id : ℕ) : Type 0 where
   pub inside : AreRowCounts size counts rows
   pub are : prefixes counts rows ≡ set lists list (get_or lists list [] ++ id ∷ [])
 
-pub longer : (size : ℕ) (lists : List (List ℕ)) (counts : List ℕ) (rows : List (List ℕ)) (list id count : ℕ) (row : List ℕ) → prefixes counts rows ≡ lists → AreRowCounts size counts rows → list < length counts
-    → count ≡ get_or counts list 0 → row ≡ get_or rows list [] → count < size → IsLonger size lists (set counts list (count + 1)) (set rows list (set row count id)) list id
-longer size lists counts rows list id count row is so l e f capacity = subst (λ ls. IsLonger size ls counts' rows' list id) is (record { inside = inside; are = ext_get_or [] (prefixes counts' rows') new length_is same }) where
+pub prefix_push : (size : ℕ) (lists : List (List ℕ)) (counts : List ℕ) (rows : List (List ℕ)) (list id count : ℕ) (row : List ℕ) → prefixes counts rows ≡ lists → AreRowCounts size counts rows → list < length counts
+    → count ≡ get_or counts list 0 → row ≡ get_or rows list [] → count < size → IsPrefixPush size lists (set counts list (count + 1)) (set rows list (set row count id)) list id
+prefix_push size lists counts rows list id count row is so l e f capacity = subst (λ ls. IsPrefixPush size ls counts' rows' list id) is (record { inside = inside; are = ext_get_or [] (prefixes counts' rows') new length_is same }) where
   counts' : List ℕ
   counts' = set counts list (count + 1)
 

@@ -1,4 +1,4 @@
--- What a search in a table finds, and the edge between two vertices.
+-- Searches in a table, and the edge between two vertices.
 use Rattle.std.proofs.Common.{◌≡◌, ◌⊎◌, ℕ, ◌+◌, ◌<◌, ◌≤◌, true, false, List, [], ◌∷◌, length, map, set, get_or, AllPairs, Contains, Option, Some, None, IfSome, IfNone, nat_cmp, Less, Equal, Greater, Ordering, refl, sym, ap, subst, ◌∙◌, inl, inr, arith}
 use Rattle.std.specs.Cmp.Lexicographic.{slice_cmp, nat_list_cmp_total, texts_ties, same_text}
 use Rattle.std.specs.List.{HoldsAt}
@@ -16,13 +16,13 @@ use Rattle.mesh_topology.specs.Internal.Combinations.{AreRanks, AreRanksSoFar}
 use Rattle.mesh_topology.specs.Elements.{elements, count, corners, id_of_corners}
 use Rattle.mesh_topology.proofs.MemberLemmas.{Member, included, includes_trans}
 use Rattle.mesh_topology.proofs.OrderLemmas.{Before}
-use Rattle.mesh_topology.proofs.RankLemmas.{found_again}
+use Rattle.mesh_topology.proofs.RankLemmas.{id_of_corners_is}
 use Rattle.mesh_topology.proofs.CombinationLemmas.{IsAscending}
 use Rattle.mesh_topology.proofs.CycleLemmas.{same_by}
 use Rattle.mesh_topology.proofs.ListLemmas.{not_both_before}
-use Rattle.mesh_topology.proofs.NearLemmas.{rising_is}
+use Rattle.mesh_topology.proofs.NearLemmas.{corner_set_is}
 
--- lists that compare as equal are one
+-- lists that compare as equal are equal
 equal_is : (xs ys : List ℕ) → slice_cmp nat_cmp xs ys ≡ Equal → xs ≡ ys
 equal_is xs ys e = same_text xs ys (sym (texts_ties xs ys ∙ ap (λ o. is_eq o) e))
 
@@ -34,7 +34,7 @@ sorted_of table up = λ k d low l. go (get_or table k d) (get_or table (k + 1) d
   go x y b Equal e = refl
   go x y b Greater e = refl
 
--- where a search answers with a place, the set stands there
+-- the index that a search gives is that of the set
 pub found_at : (table : List (List ℕ)) (set : List ℕ) (id : ℕ) → id < length table → HoldsAt (λ y. slice_cmp nat_cmp y set ≡ Equal) table id
     → (id < length table) × (get_or table id [] ≡ set)
 found_at table set id l h = (l, equal_is (get_or table id []) set (h []))
@@ -46,7 +46,7 @@ not_equal o e (inr f) = cc
 cmp_itself : (xs : List ℕ) → slice_cmp nat_cmp xs xs ≡ Equal
 cmp_itself xs = tied_itself nat_list_cmp_total xs
 
--- and where it answers with none, the set is nowhere
+-- if a search gives none, the set is not in the table
 pub none_at : (table : List (List ℕ)) (set : List ℕ) (at : ℕ) → AllPairs Before table
     → (IsNonDecreasingBy (λ y. ordering_index (slice_cmp nat_cmp y set)) table → IsPartitionPoint (λ y. slice_cmp nat_cmp y set ≡ Less) (λ y. slice_cmp nat_cmp y set ≡ Greater) table at)
     → (id : ℕ) → id < length table → get_or table id [] ≡ set → ⊥
@@ -58,7 +58,7 @@ none_at table set at up h id l e =
       | inr m ↦ not_equal (slice_cmp nat_cmp (get_or table id []) set) same (inr (parts.1 id [] m l))
     ]
 
--- rising pairs with the same members are one
+-- ascending pairs with the same members are equal
 same_pair : (p q x y : ℕ) → p < q → x ≤ y → Member x (p ∷ q ∷ []) → Member y (p ∷ q ∷ []) → Member p (x ∷ y ∷ []) → Member q (x ∷ y ∷ []) → (p ≡ x) × (q ≡ y)
 same_pair p q x y l m a b c d = (grind arith, grind arith)
 
@@ -75,20 +75,20 @@ pair_is [] x y l r m same = absurd (omega arith)
 pair_is (p ∷ []) x y l r m same = absurd (omega arith)
 pair_is (p ∷ q ∷ s ∷ set) x y l r m same = absurd (omega arith)
 
--- the number of an edge is what a search for its ends in ascending order finds
+-- the id of an edge is the index of its ends in ascending order
 pub number_is : (mesh : MeshLists) (table : List (List ℕ)) → table ≡ elements mesh Edge → (a b x y : ℕ) → x ≤ y → same_members (a ∷ b ∷ []) (x ∷ y ∷ []) ≡ true → (r : Option ℕ)
     → IfSome r (λ id. (id < length table) × (get_or table id [] ≡ x ∷ y ∷ [])) → IfNone r ((id : ℕ) → id < length table → get_or table id [] ≡ x ∷ y ∷ [] → ⊥)
     → r ≡ id_of_corners mesh Edge (a ∷ b ∷ [])
 number_is mesh table e a b x y m same (Some id) some none =
     let l : id < count mesh Edge = subst (λ t. id < length t) e some.0 in
     let is : corners mesh Edge id ≡ x ∷ y ∷ [] = ap (λ t. get_or t id []) (sym e) ∙ some.1 in
-    sym (found_again mesh Edge 2 refl id (a ∷ b ∷ []) l (subst (λ s. same_members (a ∷ b ∷ []) s ≡ true) (sym is) same))
+    sym (id_of_corners_is mesh Edge 2 refl id (a ∷ b ∷ []) l (subst (λ s. same_members (a ∷ b ∷ []) s ≡ true) (sym is) same))
 number_is mesh table e a b x y m same None some none = go (id_of_corners mesh Edge (a ∷ b ∷ [])) refl where
   go : (o : Option ℕ) → id_of_corners mesh Edge (a ∷ b ∷ []) ≡ o → None ≡ o
   go None is = refl
   go (Some id) is =
       let p = position-Some (same_members (a ∷ b ∷ [])) (elements mesh Edge) id [] is in
-      let h = rising_is mesh Edge 2 refl id p.0 in
+      let h = corner_set_is mesh Edge 2 refl id p.0 in
       let set = corners mesh Edge id in
       let one = and_parts (includes (a ∷ b ∷ []) set) (includes set (a ∷ b ∷ [])) p.1 in
       let two = and_parts (includes (a ∷ b ∷ []) (x ∷ y ∷ [])) (includes (x ∷ y ∷ []) (a ∷ b ∷ [])) same in
@@ -96,7 +96,7 @@ number_is mesh table e a b x y m same None some none = go (id_of_corners mesh Ed
       let l : id < length table = subst (λ t. id < length t) (sym e) p.0 in
       absurd (none id l (ap (λ t. get_or t id []) e ∙ pair_is set x y h.size_is h.ascending m both))
 
--- the same for a set that is written so
+-- the same for a set that equals these ends
 pub number_by : (mesh : MeshLists) (table : List (List ℕ)) → table ≡ elements mesh Edge → (a b x y : ℕ) (set : List ℕ) → set ≡ x ∷ y ∷ [] → x ≤ y
     → same_members (a ∷ b ∷ []) (x ∷ y ∷ []) ≡ true → (r : Option ℕ) → IfSome r (λ id. (id < length table) × (get_or table id [] ≡ set))
     → IfNone r ((id : ℕ) → id < length table → get_or table id [] ≡ set → ⊥) → r ≡ id_of_corners mesh Edge (a ∷ b ∷ [])
@@ -109,14 +109,14 @@ pub same_order : (a b : ℕ) → same_members (a ∷ b ∷ []) (a ∷ b ∷ []) 
 same_order a b = same_by (a ∷ b ∷ []) (a ∷ b ∷ []) (λ x m. m) (λ x m. m)
 
 pub other_order : (a b : ℕ) → same_members (a ∷ b ∷ []) (b ∷ a ∷ []) ≡ true
-other_order a b = same_by (a ∷ b ∷ []) (b ∷ a ∷ []) (transposed a b) (transposed b a) where
-  transposed : (a b x : ℕ) → Member x (a ∷ b ∷ []) → Member x (b ∷ a ∷ [])
-  transposed a b x m = grind arith
+other_order a b = same_by (a ∷ b ∷ []) (b ∷ a ∷ []) (swap a b) (swap b a) where
+  swap : (a b x : ℕ) → Member x (a ∷ b ∷ []) → Member x (b ∷ a ∷ [])
+  swap a b x m = grind arith
 
--- a set more
-pub ranks_more : (table sets : List (List ℕ)) (i : ℕ) (ids : List ℕ) (id : ℕ) → i < length sets → AreRanksSoFar table sets i ids → id < length table → get_or table id [] ≡ get_or sets i []
+-- the next set
+pub ranks_step : (table sets : List (List ℕ)) (i : ℕ) (ids : List ℕ) (id : ℕ) → i < length sets → AreRanksSoFar table sets i ids → id < length table → get_or table id [] ≡ get_or sets i []
     → AreRanksSoFar table sets (i + 1) (set ids i id)
-ranks_more table sets i ids id l so below stands = record { length_is = length-set ids i id ∙ so.length_is; at = at } where
+ranks_step table sets i ids id l so below between_starts = record { length_is = length-set ids i id ∙ so.length_is; at = at } where
   here : i < length ids
   here = omega (arith, so.length_is)
 
@@ -124,7 +124,7 @@ ranks_more table sets i ids id l so below stands = record { length_is = length-s
   at k m = elim (cases_eq k i) [
     | inl e ↦
         let same : get_or (set ids i id) k 0 ≡ id = ap (λ j. get_or (set ids i id) j 0) e ∙ get_or-set_same ids i id 0 here in
-        (subst (λ v. v < length table) (sym same) below, ap (λ v. get_or table v []) same ∙ (stands ∙ ap (λ j. get_or sets j []) (sym e)))
+        (subst (λ v. v < length table) (sym same) below, ap (λ v. get_or table v []) same ∙ (between_starts ∙ ap (λ j. get_or sets j []) (sym e)))
     | inr ne ↦
         let same : get_or (set ids i id) k 0 ≡ get_or ids k 0 = get_or-set_other ids i k id 0 ne in
         let one = so.at k (omega arith) in

@@ -1,4 +1,4 @@
--- A face lies in one cell or in two.
+-- A face is in one cell or in two.
 use Rattle.std.proofs.Common.{◌≡◌, ℕ, suc, ◌+◌, ◌-◌, ◌<◌, ◌≤◌, ◌||◌, nat_lt, cond, Bool, true, false, List, [], ◌∷◌, ◌++◌, length, get_or}
 use Rattle.std.proofs.Common.{count_by, filter, refl, sym, ap, subst, inl, inr, arith, append-nil, append_assoc, length-append, ltb-false}
 use Rattle.std.proofs.Common.{add-zero, zero-add}
@@ -15,26 +15,26 @@ use Rattle.mesh_topology.proofs.MemberLemmas.{no_longer, has_all_members}
 use Rattle.mesh_topology.proofs.OrderLemmas.{different}
 use Rattle.mesh_topology.proofs.RankLemmas.{element_is, each_at}
 
--- three different numbers that lie among three are these
+-- three different members of a list of three are all of its members
 three_fill : (t z : List ℕ) → are_different t ≡ true → length t ≡ 3 → length z ≡ 3 → ((x : ℕ) → Member x t → Member x z)
     → same_members t z ≡ true
 three_fill t z d l k h = and_from (includes t z) (includes z t) (includes_by t z (has_all_members t z d h (omega arith))) (includes_by z t h)
 
--- four different corners don't all lie in three
+-- four different corners are not all among three
 not_four : (t x : List ℕ) → are_different x ≡ true → length t ≡ 3 → length x ≡ 4 → includes t x ≡ true → ⊥
 not_four t x d l k i = let n = no_longer x t d (λ y m. included t x y i m) in omega arith
 
--- what is not in a list is no member of it
+-- a number that fails `is_in` is no member
 apart : (t : List ℕ) (a : ℕ) → is_in t a ≡ false → (x : ℕ) → Member x t → a ≡ x → ⊥
 apart t a out x m e = both_ways (is_in t a) out (member_in t a (subst (λ v. Member v t) (sym e) m))
 
--- one of the four cycles of a cell's corners has the members of a triple
+-- one of the four cycles of a cell has the members of a triple
 pub record HasCycle (x t : List ℕ) : Type 0 where
   pub cycle : List ℕ
   pub one : Member cycle (induced_cycles x)
   pub same : same_members t cycle ≡ true
 
--- it is one that leaves out a corner which is not in the triple
+-- it is the one without a corner that is not in the triple
 leaves_out : (x t z : List ℕ) (a : ℕ) → are_different t ≡ true → length t ≡ 3 → includes x t ≡ true → is_in t a ≡ false → length z ≡ 3
     → ((y : ℕ) → (a ≡ y → ⊥) → Member y x → Member y z) → Member z (induced_cycles x) → HasCycle x t
 leaves_out x t z a d l i out k rest one =
@@ -69,7 +69,7 @@ has_cycle a b c d t dx dt l i true true true true e f g h = absurd (not_four t (
   all : includes t (a ∷ b ∷ c ∷ d ∷ []) ≡ true
   all = rw (e, f, g, h) refl
 
--- so a triple of a cell's corners has such a cycle
+-- each triple of corners of a cell has such a cycle
 pub of_cell : (points : ℕ) (x t : List ℕ) → IsCell points x → are_different t ≡ true → length t ≡ 3 → includes x t ≡ true → HasCycle x t
 of_cell points (a ∷ b ∷ c ∷ d ∷ []) t h dt l i =
     has_cycle a b c d t h.1 dt l i (is_in t a) (is_in t b) (is_in t c) (is_in t d) refl refl refl refl
@@ -79,58 +79,58 @@ of_cell points (a ∷ b ∷ []) t h dt l i = absurd (omega (arith, h.0))
 of_cell points (a ∷ b ∷ c ∷ []) t h dt l i = absurd (omega (arith, h.0))
 of_cell points (a ∷ b ∷ c ∷ d ∷ e ∷ xs) t h dt l i = absurd (omega (arith, h.0))
 
--- how many cells include a triple
-abbrev pub beside : List ℕ → List (List ℕ) → ℕ
-beside t cells = length (filter (λ cell. includes cell t) cells)
+-- the number of cells that include a triple
+abbrev pub incidence_count : List ℕ → List (List ℕ) → ℕ
+incidence_count t cells = length (filter (λ cell. includes cell t) cells)
 
--- two tests that follow from each other are one
+-- two tests that follow from each other are equal
 pub same_test : (a b : Bool) → (a ≡ true → b ≡ true) → (b ≡ true → a ≡ true) → a ≡ b
 same_test true b h k = sym (h refl)
 same_test false true h k = k refl
 same_test false false h k = refl
 
--- triples with the same members lie in as many cells
-beside_same : (t z : List ℕ) (cells : List (List ℕ)) → same_members t z ≡ true → beside t cells ≡ beside z cells
-beside_same t z cells same =
+-- triples with the same members are in equally many cells
+incidence_count_same : (t z : List ℕ) (cells : List (List ℕ)) → same_members t z ≡ true → incidence_count t cells ≡ incidence_count z cells
+incidence_count_same t z cells same =
     let two = and_parts (includes t z) (includes z t) same in
     ap (λ xs. length xs) (filter_agree (λ cell. includes cell t) (λ cell. includes cell z)
     (λ c. same_test (includes c t) (includes c z) (λ i. includes_trans c t z i two.0) (λ i. includes_trans c z t i two.1)) cells)
 
--- a cell more adds one where it includes the triple, and else nothing
-beside_more : (t x : List ℕ) (earlier : List (List ℕ)) (in' : Bool) → includes x t ≡ in'
-    → beside t (earlier ++ x ∷ []) ≡ beside t earlier + cond in' 1 0
-beside_more t x earlier true is =
+-- the next cell adds one if it includes the triple, and else nothing
+incidence_count_step : (t x : List ℕ) (earlier : List (List ℕ)) (in' : Bool) → includes x t ≡ in'
+    → incidence_count t (earlier ++ x ∷ []) ≡ incidence_count t earlier + cond in' 1 0
+incidence_count_step t x earlier true is =
     let counted = length-append (filter (λ cell. includes cell t) earlier) (x ∷ []) in
     rw (filter-append (λ cell. includes cell t) earlier (x ∷ [])) (rw is counted)
-beside_more t x earlier false is =
+incidence_count_step t x earlier false is =
     let counted = length-append (filter (λ cell. includes cell t) earlier) [] in
     rw (filter-append (λ cell. includes cell t) earlier (x ∷ [])) (rw is counted)
 
--- where at most two cells include a triple, a cell more that is no third leaves at most two
-few_more : (points : ℕ) (t x : List ℕ) (earlier : List (List ℕ)) (in' : Bool) → includes x t ≡ in' → are_different t ≡ true
-    → length t ≡ 3 → IsCell points x → is_third earlier x ≡ false → beside t earlier ≤ 2 → beside t (earlier ++ x ∷ []) ≤ 2
-few_more points t x earlier false is dt l cell third before = let e = beside_more t x earlier false is in omega arith
-few_more points t x earlier true is dt l cell third before =
+-- if at most two cells include a triple, and a further cell is not the third one, at most two of all include it
+few_step : (points : ℕ) (t x : List ℕ) (earlier : List (List ℕ)) (in' : Bool) → includes x t ≡ in' → are_different t ≡ true
+    → length t ≡ 3 → IsCell points x → is_third earlier x ≡ false → incidence_count t earlier ≤ 2 → incidence_count t (earlier ++ x ∷ []) ≤ 2
+few_step points t x earlier false is dt l cell third before = let e = incidence_count_step t x earlier false is in omega arith
+few_step points t x earlier true is dt l cell third before =
     let h = of_cell points x t cell dt l is in
     let test = λ (face : List ℕ). nat_lt 1 (count_by (λ cell. includes cell face) earlier) in
     let passes = λ (e : test h.cycle ≡ true). any_by test (induced_cycles x) h.cycle h.one e in
     let fails = false_from_ne_true (test h.cycle) (λ e. both_ways (is_third earlier x) third (passes e)) in
     let one = ltb-false 1 (count_by (λ cell. includes cell h.cycle) earlier) fails in
     let counted = length-filter (λ cell. includes cell h.cycle) earlier in
-    let same = beside_same t h.cycle earlier h.same in
-    let e = beside_more t x earlier true is in
+    let same = incidence_count_same t h.cycle earlier h.same in
+    let e = incidence_count_step t x earlier true is in
     omega arith
 
--- so at most two cells of a mesh include a triple
+-- at most two cells of a mesh include a triple
 few : (points : ℕ) (t : List ℕ) (earlier xs : List (List ℕ)) → are_different t ≡ true → length t ≡ 3 → AllByRecursion (IsCell points) xs
-    → list_any (λ b. b) (along is_third earlier xs) ≡ false → beside t earlier ≤ 2 → beside t (earlier ++ xs) ≤ 2
+    → list_any (λ b. b) (along is_third earlier xs) ≡ false → incidence_count t earlier ≤ 2 → incidence_count t (earlier ++ xs) ≤ 2
 few points t earlier [] dt l cells none before = rw (append-nil earlier) before
 few points t earlier (x ∷ xs) dt l cells none before =
     let two = or_parts (is_third earlier x) (list_any (λ b. b) (along is_third (earlier ++ x ∷ []) xs)) none in
-    let here = few_more points t x earlier (includes x t) refl dt l cells.0 two.0 before in
-    subst (λ ys. beside t ys ≤ 2) (append_assoc earlier (x ∷ []) xs) (few points t (earlier ++ x ∷ []) xs dt l cells.1 two.1 here)
+    let here = few_step points t x earlier (includes x t) refl dt l cells.0 two.0 before in
+    subst (λ ys. incidence_count t ys ≤ 2) (append_assoc earlier (x ∷ []) xs) (few points t (earlier ++ x ∷ []) xs dt l cells.1 two.1 here)
 
--- as many places pass as members, where a place passes as its member does
+-- equally many indices pass as members, if an index passes as its member does
 places : {A : Type 0} (f : ℕ → Bool) (g : A → Bool) (d : A) (xs : List A) (a : ℕ)
     → ((i : ℕ) → i < length xs → f (a + i) ≡ g (get_or xs i d)) → length (filter f (range_with_len a (length xs))) ≡ length (filter g xs)
 places f g d [] a h = refl
@@ -154,13 +154,13 @@ pub record IsFace (cells : List (List ℕ)) (t : List ℕ) : Type 0 where
   pub different : are_different t ≡ true
   pub in_a_cell : list_any (λ corners. includes corners t) cells ≡ true
 
--- a face of a mesh is that
+-- a face of a mesh has such corners
 pub face_is : (mesh : MeshLists) (face : ℕ) → face < count mesh Face → IsFace (corner_lists mesh) (corners mesh Face face)
 face_is mesh face l =
     let e = element_is mesh Face 3 refl (corners mesh Face face) (member_at (elements mesh Face) face [] l) in
     record { three = e.0; different = different 0 (length mesh.points) (corners mesh Face face) e.1; in_a_cell = e.2 }
 
--- a face and a cell are incident where the cell includes the face
+-- a face and a cell are incident if and only if the cell includes the face
 pub incident_is : (mesh : MeshLists) → IsMesh (length mesh.points) (corner_lists mesh) → (face : ℕ) → face < count mesh Face
     → (cell : ℕ) → cell < count mesh Cell
     → is_incident mesh Face face Cell cell ≡ includes (corners mesh Cell cell) (corners mesh Face face)
@@ -172,7 +172,7 @@ incident_is mesh is face l cell k =
     let out : includes t c ≡ false = false_from_ne_true (includes t c) (not_four t c h.1 f.three h.0) in
     ap (λ b. b || includes c t) out
 
--- nothing is taken away
+-- subtraction of zero
 less_zero : (n : ℕ) → n - 0 ≡ n
 less_zero n = omega arith
 
@@ -181,9 +181,9 @@ some_kept : {A : Type 0} (xs : List A) (x : A) → Member x xs → 1 ≤ length 
 some_kept [] x m = absurd m
 some_kept (y ∷ ys) x m = omega arith
 
--- a face's sides are as many as the cells that include it
+-- the number of sides of a face is that of the cells that include it
 sides_are : (mesh : MeshLists) → IsMesh (length mesh.points) (corner_lists mesh) → (face : ℕ) → face < count mesh Face
-    → length (sides mesh face) ≡ beside (corners mesh Face face) (corner_lists mesh)
+    → length (sides mesh face) ≡ incidence_count (corners mesh Face face) (corner_lists mesh)
 sides_are mesh is face l =
     let t = corners mesh Face face in
     let cells = corner_lists mesh in

@@ -1,4 +1,4 @@
--- Where the sets that begin with each number start in a table, and what stands between two starts.
+-- The starts of the sets with each first corner in a table, and the sets between two starts.
 use Rattle.std.proofs.Common.{◌≡◌, ℕ, ◌+◌, ◌-◌, ◌<◌, ◌≤◌, List, [], ◌∷◌, ◌++◌, length, get_or, AllPairs, Contains, nat_cmp, Greater, sym, ap, subst, ◌∙◌, inl, inr, arith}
 use Rattle.std.specs.List.{between}
 use Rattle.std.proofs.lemmas.Bool.{cases_eq, cases_lt}
@@ -8,7 +8,7 @@ use Rattle.std.proofs.lemmas.List.Edits.{length-between, get_or-between}
 use Rattle.mesh_topology.specs.Internal.Combinations.{first_corner, AreStarts, IsIndexed, IsSmallTable}
 use Rattle.mesh_topology.proofs.OrderLemmas.{Before}
 
--- first numbers don't fall
+-- first corners do not descend
 first_before : (xs ys : List ℕ) → Before xs ys → get_or xs 0 0 ≤ get_or ys 0 0
 first_before [] ys b = omega arith
 first_before (x ∷ xs) [] b = cc
@@ -26,12 +26,12 @@ firsts_rise table up i j l m = elim (cases_eq i j) [
   | inr ne ↦ first_before (get_or table i []) (get_or table j []) (up i j [] (omega arith) m)
 ]
 
--- a start more
-pub starts_more : (table : List (List ℕ)) (v : ℕ) (starts : List ℕ) (from next : ℕ) (more : List ℕ) → IsSmallTable table → AreStarts table v starts
+-- the next start
+pub starts_step : (table : List (List ℕ)) (v : ℕ) (starts : List ℕ) (from next : ℕ) (more : List ℕ) → IsSmallTable table → AreStarts table v starts
     → ((id : ℕ) → id < from → first_corner (get_or table id []) < v) → (from ≤ next) × (next ≤ length table)
     → ((id : ℕ) → from ≤ id → id < next → first_corner (get_or table id []) < v) → (next < length table → v ≤ first_corner (get_or table next []))
     → more ≡ starts ++ next ∷ [] → AreStarts table (v + 1) more
-starts_more table v starts from next more small so before range skipped stops is =
+starts_step table v starts from next more small so before range skipped stops is =
     subst (λ s. AreStarts table (v + 1) s) (sym is) (record { length_is = length_push starts next ∙ ap (λ n. n + 1) so.length_is; inside = inside; below = below; above = above })
   where
     last : get_or (starts ++ next ∷ []) v 0 ≡ next
@@ -64,17 +64,17 @@ starts_more table v starts from next more small so before range skipped stops is
       | inr ne ↦ let m : w < v = omega arith in so.above w id m (subst (λ s. s ≤ id) (other w m) k) n
     ]
 
--- where a set stands between two starts
-pub record StandsBetween (table : List (List ℕ)) (low high : ℕ) (set : List ℕ) : Type 0 where
+-- a set between two starts
+pub record IsBetweenStarts (table : List (List ℕ)) (low high : ℕ) (set : List ℕ) : Type 0 where
   pub range : low ≤ high
   pub inside : high ≤ length table
   pub at : ℕ
   pub below : at < length (between low high table)
   pub is : get_or (between low high table) at [] ≡ set
 
-pub stands : (table : List (List ℕ)) (starts set : List ℕ) (low high : ℕ) → IsIndexed table starts → Contains table set → low ≡ get_or starts (first_corner set) 0 → high ≡ get_or starts (first_corner set + 1) 0
-    → StandsBetween table low high set
-stands table starts set low high x c e f =
+pub between_starts : (table : List (List ℕ)) (starts set : List ℕ) (low high : ℕ) → IsIndexed table starts → Contains table set → low ≡ get_or starts (first_corner set) 0 → high ≡ get_or starts (first_corner set + 1) 0
+    → IsBetweenStarts table low high set
+between_starts table starts set low high x c e f =
     let id = c.0 in
     let is : get_or table id [] ≡ set = get_or_default table id [] set c.1 ∙ c.2 in
     let first : first_corner (get_or table id []) ≡ first_corner set = ap (λ s. get_or s 0 0) is in
@@ -100,7 +100,7 @@ stands table starts set low high x c e f =
       | inr l ↦ absurd (let b = x.starts_are.above (first_corner set + 1) id (omega arith) (subst (λ n. n ≤ id) f l) in' in omega arith)
     ]
 
--- what stands between two places of a table is a table
+-- a part of a table is a table
 pub part_small : (table : List (List ℕ)) (low high : ℕ) → IsSmallTable table → high ≤ length table → IsSmallTable (between low high table)
 part_small table low high small l = record { few = omega (arith, small.few, length-between table low high l); ordered = ordered } where
   ordered : AllPairs Before (between low high table)
@@ -111,14 +111,14 @@ part_small table low high small l = record { few = omega (arith, small.few, leng
       let b = small.ordered (low + i) (low + j) d (omega arith) (omega arith) in
       subst (λ x. Before x (get_or (between low high table) j d)) (sym one) (subst (λ y. Before (get_or table (low + i) d) y) (sym two) b)
 
--- and its places are some of that table's
+-- the indices of a part are indices of the table
 pub part_place : (table : List (List ℕ)) (low high id : ℕ) (set : List ℕ) → high ≤ length table → id < length (between low high table) → get_or (between low high table) id [] ≡ set
     → (low + id < length table) × (get_or table (low + id) [] ≡ set)
 part_place table low high id set l m e =
     let k : low + id < high = omega (arith, length-between table low high l) in
     (omega arith, sym (get_or-between table low high id [] k) ∙ e)
 
--- what begins below a number, from the start up to two places
+-- the sets up to an index have smaller first corners
 pub first_corners_below : (table : List (List ℕ)) (from next v : ℕ) → ((id : ℕ) → id < from → first_corner (get_or table id []) < v)
     → ((id : ℕ) → from ≤ id → id < next → first_corner (get_or table id []) < v) → (id : ℕ) → id < next → first_corner (get_or table id []) < v + 1
 first_corners_below table from next v before skipped id l = elim (cases_lt id from) [

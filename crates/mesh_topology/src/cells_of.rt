@@ -8,21 +8,21 @@ ghost use Rattle.mesh_topology.specs.Internal.Incidence.{cells_with, AreEdgeCorn
 use liszt_base::{NoMemory, PlainLists};
 use std::alloc::Global;
 
-/// Replaces `some` by those of the cells `ids` that have a corner.
+/// Replaces `selected` by those of the cells `ids` that have a corner.
 fn set_cells_with(
-    some: &mut Vec<u32>,
+    selected: &mut Vec<u32>,
     cells: &[[u32; 4]],
     ids: &[u32],
     corner: u32,
 ) -> Result<(), NoMemory>
     requires { All (λ id. id < length cells.now) ids.now }
-    ensures { OnOk result (some.new.items
+    ensures { OnOk result (selected.new.items
         ≡ filter (λ id. is_in (slice_index_or cells.now id []) corner) ids.now) }
 {
-    some.clear();
+    selected.clear();
     for id in ids {
         if cells[*id as usize].contains(&corner) {
-            some.push(*id)?;
+            selected.push(*id)?;
         }
     }
     Ok(())
@@ -36,16 +36,16 @@ pub fn selected_cells(
     lists: &PlainLists<u32>,
 ) -> Result<PlainLists<u32>, NoMemory>
     requires { ArePairsInRange cells.now pairs.now lists.now }
-    ensures { IfOk result (λ all. all ≡ map (cells_with cells.now lists.now) pairs.now) }
+    ensures { IfOk result (λ selections. selections ≡ map (cells_with cells.now lists.now) pairs.now) }
 {
-    let mut all = PlainLists::new(alloc);
-    let mut some = Vec::new(alloc);
+    let mut selections = PlainLists::new(alloc);
+    let mut selected = Vec::new(alloc);
     for pair in pairs {
         let [place, corner] = *pair;
-        set_cells_with(&mut some, cells, lists.of(place as usize), corner)?;
-        all.push(some.as_slice())?;
+        set_cells_with(&mut selected, cells, lists.of(place as usize), corner)?;
+        selections.push(selected.as_slice())?;
     }
-    Ok(all)
+    Ok(selections)
 }
 
 /// The first edge of each face, and the corner that is not on this edge.

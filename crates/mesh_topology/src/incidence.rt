@@ -147,15 +147,15 @@ pub fn sorted_partners(
     ensures { IfOk result (AreNeighbourSets (transposed lists.now count) lists.now count) }
 {
     let rows = partners::<4>(alloc, lists, count)?;
-    let mut all = PlainLists::new(alloc);
+    let mut sets = PlainLists::new(alloc);
     let mut set = Vec::new(alloc);
     for id in 0..count {
         set.clear();
         set.extend_from_slice(rows.of(id as usize))?;
         make_set(&mut set);
-        all.push(set.as_slice())?;
+        sets.push(set.as_slice())?;
     }
-    Ok(all)
+    Ok(sets)
 }
 
 /// Sorts ids and removes repeated ones.
@@ -206,11 +206,11 @@ pub fn neighbour_lists(
     requires { AreListsBelow through.now.lists (length back.now) }
     ensures { IfOk result (AreNeighbourSets through.now.lists back.now (length through.now.lists)) }
 {
-    let mut all = PlainLists::new(alloc);
+    let mut sets = PlainLists::new(alloc);
     let mut others = Vec::new(alloc);
     for id in 0..through.len() {
         set_neighbours(&mut others, id as u32, through.of(id), back)?;
-        all.push(others.as_slice())?;
+        sets.push(others.as_slice())?;
     }
-    Ok(all)
+    Ok(sets)
 }

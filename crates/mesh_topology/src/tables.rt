@@ -12,7 +12,7 @@ use liszt_base::{NoMemory, PlainLists, RawCell};
 use std::alloc::Global;
 
 /// The bound of corners: a key is its second corner times this, plus the third.
-const KEY: u64 = 4_294_967_296;
+const CORNER_BOUND: u64 = 4_294_967_296;
 
 /// The corners in ascending order.
 fn sorted_corners(corners: [u32; 4]) -> [u32; 4]
@@ -98,7 +98,7 @@ fn key(corners: &[u32; 3]) -> u64
     ensures { result ≡ key corners.now }
 {
     let [_, second, third] = *corners;
-    u64::from(second) * KEY + u64::from(third)
+    u64::from(second) * CORNER_BOUND + u64::from(third)
 }
 
 /// Appends the keys of those triples that begin with `first`.
@@ -145,7 +145,11 @@ fn add_triples(table: &mut Vec<[u32; 3]>, first: u32, keys: &[u64]) -> Result<()
     ensures { OnOk result (table.new.items ≡ table.old.items ++ map (triple first) keys.now) }
 {
     for key in keys {
-        table.push([first, (*key / KEY) as u32, (*key % KEY) as u32])?;
+        table.push([
+            first,
+            (*key / CORNER_BOUND) as u32,
+            (*key % CORNER_BOUND) as u32,
+        ])?;
     }
     Ok(())
 }

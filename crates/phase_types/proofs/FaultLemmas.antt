@@ -1,4 +1,4 @@
--- The walk finds no fault exactly in typed programs.
+-- The walk of a program has no fault if and only if the program is typed.
 use Rattle.std.proofs.Common.{◌≡◌, ℕ, List, [], ◌∷◌, ◌++◌, refl, sym, subst}
 use Rattle.std.specs.List.{AllByRecursion, find}
 use Rattle.std.specs.Option.{option_and_then}
@@ -11,25 +11,25 @@ use Rattle.phase_types.specs.Environments.{Binding, FieldName, ScalarName, Local
 use Rattle.phase_types.specs.Types.{NumberType, TruthType}
 use Rattle.phase_types.specs.Typed.{ComprehensionFits, ItemFits, FitsMainField, FitsMainVar, FitsMainAssign, FitsMainIf, FitsMainWhile, FitsMainFor, FitsPrint, MainFits, FitsNoItem, FitsItems, IsTyped}
 use Rattle.phase_types.specs.Walk.{Step, TestStep, AccessStep, typed_steps, name_requirement, steps_in, faults_in_steps, faults_in_main, main_target_steps, faults_in_item, faults_in_items, check_fault}
-use Rattle.phase_types.proofs.ModeLemmas.{IsNone, steps_find_nothing, nothing_in_steps}
+use Rattle.phase_types.proofs.ModeLemmas.{IsNone, typed_steps_have_no_fault, typed_steps_without_fault}
 use Rattle.phase_types.proofs.StepLemmas.{all_of_both, all_of_first, all_of_second, Passes, AllPass, typed_pass, pass_typed, new_pass, pass_new, body_passes, passed_body, failed, then, first_of_both, second_of_both}
 
 -- steps of the main program
-main_finds_nothing : (steps : List Step) → AllByRecursion Passes steps → AllByRecursion IsNone (faults_in_main steps)
-main_finds_nothing [] h = tt
-main_finds_nothing (TestStep fault ∷ steps) h = (h.0, main_finds_nothing steps h.1)
-main_finds_nothing (AccessStep access ∷ steps) h = (refl, main_finds_nothing steps h.1)
+main_steps_have_no_fault : (steps : List Step) → AllByRecursion Passes steps → AllByRecursion IsNone (faults_in_main steps)
+main_steps_have_no_fault [] h = tt
+main_steps_have_no_fault (TestStep fault ∷ steps) h = (h.0, main_steps_have_no_fault steps h.1)
+main_steps_have_no_fault (AccessStep access ∷ steps) h = (refl, main_steps_have_no_fault steps h.1)
 
-nothing_in_main : (steps : List Step) → AllByRecursion IsNone (faults_in_main steps) → AllByRecursion Passes steps
-nothing_in_main [] h = tt
-nothing_in_main (TestStep fault ∷ steps) h = (h.0, nothing_in_main steps h.1)
-nothing_in_main (AccessStep access ∷ steps) h = (tt, nothing_in_main steps h.1)
+main_steps_without_fault : (steps : List Step) → AllByRecursion IsNone (faults_in_main steps) → AllByRecursion Passes steps
+main_steps_without_fault [] h = tt
+main_steps_without_fault (TestStep fault ∷ steps) h = (h.0, main_steps_without_fault steps h.1)
+main_steps_without_fault (AccessStep access ∷ steps) h = (tt, main_steps_without_fault steps h.1)
 
 main_passes : {steps : List Step} → AllPass steps → AllByRecursion IsNone (faults_in_main steps)
-main_passes {steps = steps} h = main_finds_nothing steps h.all
+main_passes {steps = steps} h = main_steps_have_no_fault steps h.all
 
 passed_main : (steps : List Step) → AllByRecursion IsNone (faults_in_main steps) → AllPass steps
-passed_main steps h = record { all = nothing_in_main steps h }
+passed_main steps h = record { all = main_steps_without_fault steps h }
 
 -- assignments to scalars, and comprehensions
 assigned_passed : (site : Site) (place : Place) (name : List ℕ) (how : How) (set_to : Expression) (global : Option Binding) → binding_of site.environment name ≡ global
@@ -40,30 +40,30 @@ assigned_passed site place name how set_to (Some LocalName) is h = failed _ plac
 assigned_passed site place name how set_to (Some (ElementName kind)) is h = failed _ place h
 assigned_passed site place name how set_to None is h = failed _ place h
 
-comprehension_finds_nothing : (c : Comprehension) → ComprehensionFits c → AllByRecursion IsNone (faults_in_steps [] (steps_in c))
-comprehension_finds_nothing c h = steps_find_nothing (steps_in c) (body_passes h.body_fits) h.one_mode
+comprehension_has_no_fault : (c : Comprehension) → ComprehensionFits c → AllByRecursion IsNone (faults_in_steps [] (steps_in c))
+comprehension_has_no_fault c h = typed_steps_have_no_fault (steps_in c) (body_passes h.body_fits) h.one_mode
 
 comprehension_fits : (c : Comprehension) → AllByRecursion IsNone (faults_in_steps [] (steps_in c)) → ComprehensionFits c
 comprehension_fits c h =
-    let parts = nothing_in_steps (steps_in c) h in
+    let parts = typed_steps_without_fault (steps_in c) h in
     record { body_fits = passed_body _ c.body parts.0; one_mode = parts.1 }
 
 -- ITEMS
 mutual
-  finds_nothing : {site : Site} {i : MainItem} → ItemFits site i → AllByRecursion IsNone (faults_in_item site i)
-  finds_nothing {site = site} (FitsMainField place name at kind h is) = main_passes (then (typed_pass h) (new_pass site.environment name at is))
-  finds_nothing {site = site} (FitsMainVar place name at h is) = main_passes (then (typed_pass h) (new_pass site.environment name at is))
-  finds_nothing {site = site} (FitsMainAssign {set_to = set_to} place name how is h) =
+  item_has_no_fault : {site : Site} {i : MainItem} → ItemFits site i → AllByRecursion IsNone (faults_in_item site i)
+  item_has_no_fault {site = site} (FitsMainField place name at kind h is) = main_passes (then (typed_pass h) (new_pass site.environment name at is))
+  item_has_no_fault {site = site} (FitsMainVar place name at h is) = main_passes (then (typed_pass h) (new_pass site.environment name at is))
+  item_has_no_fault {site = site} (FitsMainAssign {set_to = set_to} place name how is h) =
       main_passes (subst (λ global. AllPass (main_target_steps place global (typed_steps site.environment NumberType set_to))) (sym is) (typed_pass h))
-  finds_nothing (FitsMainIf place has_else h f g) = all_of_both _ _ _ (all_of_both _ _ _ (main_passes (typed_pass h)) (find_nothing f)) (find_nothing g)
-  finds_nothing (FitsMainWhile place h f) = all_of_both _ _ _ (main_passes (typed_pass h)) (find_nothing f)
-  finds_nothing {site = site} (FitsMainFor {body = body} place name at over is h) =
-      all_of_both _ _ _ (main_passes (new_pass site.environment name at is)) (comprehension_finds_nothing (comprehension_at site name over body) h)
-  finds_nothing (FitsPrint place h) = main_passes (typed_pass h)
+  item_has_no_fault (FitsMainIf place has_else h f g) = all_of_both _ _ _ (all_of_both _ _ _ (main_passes (typed_pass h)) (items_have_no_fault f)) (items_have_no_fault g)
+  item_has_no_fault (FitsMainWhile place h f) = all_of_both _ _ _ (main_passes (typed_pass h)) (items_have_no_fault f)
+  item_has_no_fault {site = site} (FitsMainFor {body = body} place name at over is h) =
+      all_of_both _ _ _ (main_passes (new_pass site.environment name at is)) (comprehension_has_no_fault (comprehension_at site name over body) h)
+  item_has_no_fault (FitsPrint place h) = main_passes (typed_pass h)
 
-  find_nothing : {site : Site} {program : Main} → MainFits site program → AllByRecursion IsNone (faults_in_items site program)
-  find_nothing (FitsNoItem site) = tt
-  find_nothing (FitsItems f g) = all_of_both _ _ _ (finds_nothing f) (find_nothing g)
+  items_have_no_fault : {site : Site} {program : Main} → MainFits site program → AllByRecursion IsNone (faults_in_items site program)
+  items_have_no_fault (FitsNoItem site) = tt
+  items_have_no_fault (FitsItems f g) = all_of_both _ _ _ (item_has_no_fault f) (items_have_no_fault g)
 
 mutual
   item_fits : (site : Site) (i : MainItem) → AllByRecursion IsNone (faults_in_item site i) → ItemFits site i
@@ -100,7 +100,7 @@ mutual
       FitsItems (item_fits site i (all_of_first _ (faults_in_item site i) (faults_in_items (after_item site i) rest) h))
       (main_fits (after_item site i) rest (all_of_second _ (faults_in_item site i) (faults_in_items (after_item site i) rest) h))
 
--- THE FIRST of them
+-- THE FIRST FAULT
 all_none : (found : List (Option ProgramFault)) → option_and_then (λ fault. fault) (find is_some found) ≡ None → AllByRecursion IsNone found
 all_none [] e = tt
 all_none (None ∷ rest) e = (refl, all_none rest e)
@@ -112,7 +112,7 @@ none_first (None ∷ rest) h = none_first rest h.1
 none_first (Some fault ∷ rest) h = absurd (cc (h.0))
 
 pub no_fault : (program : Main) → IsTyped program → check_fault program ≡ None
-no_fault program h = none_first (faults_in_items start program) (find_nothing h)
+no_fault program h = none_first (faults_in_items start program) (items_have_no_fault h)
 
 pub is_typed : (program : Main) → check_fault program ≡ None → IsTyped program
 is_typed program e = main_fits start program (all_none (faults_in_items start program) e)

@@ -1,4 +1,4 @@
--- The accesses of a comprehension find no conflict exactly where they have one mode.
+-- The accesses of a comprehension have no conflict if and only if they have one mode.
 use Rattle.std.proofs.Common.{◌≡◌, Bool, true, false, not, cond, List, [], ◌∷◌, ◌++◌, refl, sym, ap, subst, ◌∙◌, eqb-true, eq-eqb}
 use Rattle.std.specs.List.{AllByRecursion, filter, filter_map, list_any}
 use Rattle.std.specs.Option.{option_map}
@@ -130,7 +130,7 @@ agreed_no_conflict : (earlier : List AccessAt) (access : AccessAt) → AllByRecu
 agreed_no_conflict earlier access h =
     ap (option_map _) (place_of_none access (filter (is_same access) earlier) (none_differs access earlier h))
 
--- each access in turn, with those before it
+-- each access with the earlier ones
 abbrev NoConflicts : List AccessAt → List AccessAt → Type 0
 NoConflicts earlier [] = Unit {0}
 NoConflicts earlier (access ∷ rest) = (conflict earlier access ≡ None) × NoConflicts (earlier ++ access ∷ []) rest
@@ -138,54 +138,54 @@ NoConflicts earlier (access ∷ rest) = (conflict earlier access ≡ None) × No
 abbrev AllAgree : List AccessAt → List AccessAt → Type 0
 AllAgree earlier accesses = AllByRecursion (λ other. AllByRecursion (AgreesWith other) accesses) earlier
 
-nothing_to_agree : (earlier : List AccessAt) → AllAgree earlier []
-nothing_to_agree [] = tt
-nothing_to_agree (other ∷ rest) = (tt, nothing_to_agree rest)
+none_to_agree : (earlier : List AccessAt) → AllAgree earlier []
+none_to_agree [] = tt
+none_to_agree (other ∷ rest) = (tt, none_to_agree rest)
 
-put_first : (access : AccessAt) (accesses earlier : List AccessAt) → AllByRecursion (λ other. AgreesWith other access) earlier → AllAgree earlier accesses
+agree_cons : (access : AccessAt) (accesses earlier : List AccessAt) → AllByRecursion (λ other. AgreesWith other access) earlier → AllAgree earlier accesses
     → AllAgree earlier (access ∷ accesses)
-put_first access accesses [] h g = tt
-put_first access accesses (other ∷ rest) h g = ((h.0, g.0), put_first access accesses rest h.1 g.1)
+agree_cons access accesses [] h g = tt
+agree_cons access accesses (other ∷ rest) h g = ((h.0, g.0), agree_cons access accesses rest h.1 g.1)
 
-taken_first : (access : AccessAt) (accesses earlier : List AccessAt) → AllAgree earlier (access ∷ accesses)
+agree_uncons : (access : AccessAt) (accesses earlier : List AccessAt) → AllAgree earlier (access ∷ accesses)
     → AllByRecursion (λ other. AgreesWith other access) earlier × AllAgree earlier accesses
-taken_first access accesses [] h = (tt, tt)
-taken_first access accesses (other ∷ rest) h = let others = taken_first access accesses rest h.1 in ((h.0.0, others.0), (h.0.1, others.1))
+agree_uncons access accesses [] h = (tt, tt)
+agree_uncons access accesses (other ∷ rest) h = let others = agree_uncons access accesses rest h.1 in ((h.0.0, others.0), (h.0.1, others.1))
 
 one_mode : (accesses earlier : List AccessAt) → NoConflicts earlier accesses → AllAgree earlier accesses × HaveOneMode accesses
-one_mode [] earlier h = (nothing_to_agree earlier, tt)
+one_mode [] earlier h = (none_to_agree earlier, tt)
 one_mode (access ∷ rest) earlier h =
     let others = one_mode rest (earlier ++ access ∷ []) h.1 in (
-      put_first access rest earlier (no_conflict_agrees earlier access h.0) (all_of_first _ earlier (access ∷ []) others.0),
+      agree_cons access rest earlier (no_conflict_agrees earlier access h.0) (all_of_first _ earlier (access ∷ []) others.0),
       ((all_of_second _ earlier (access ∷ []) others.0).0, others.1),
     )
 
 no_conflicts : (accesses earlier : List AccessAt) → AllAgree earlier accesses → HaveOneMode accesses → NoConflicts earlier accesses
 no_conflicts [] earlier h g = tt
 no_conflicts (access ∷ rest) earlier h g =
-    let parts = taken_first access rest earlier h in
+    let parts = agree_uncons access rest earlier h in
     (agreed_no_conflict earlier access parts.0, no_conflicts rest (earlier ++ access ∷ []) (all_of_both _ earlier (access ∷ []) parts.1 (g.0, tt)) g.1)
 
--- WHAT THE STEPS FIND: nothing where all tests pass and no access is in conflict
+-- THE FAULTS OF STEPS: none if all tests pass and no access is a conflict
 abbrev pub IsNone : Option ProgramFault → Type 0
 IsNone fault = fault ≡ None
 
-nothing_found : (steps : List Step) (earlier : List AccessAt) → AllByRecursion Passes steps → NoConflicts earlier (filter_map access_of steps)
+steps_have_no_fault : (steps : List Step) (earlier : List AccessAt) → AllByRecursion Passes steps → NoConflicts earlier (filter_map access_of steps)
     → AllByRecursion IsNone (faults_in_steps earlier steps)
-nothing_found [] earlier h g = tt
-nothing_found (TestStep fault ∷ steps) earlier h g = (h.0, nothing_found steps earlier h.1 g)
-nothing_found (AccessStep access ∷ steps) earlier h g = (g.0, nothing_found steps (earlier ++ access ∷ []) h.1 g.1)
+steps_have_no_fault [] earlier h g = tt
+steps_have_no_fault (TestStep fault ∷ steps) earlier h g = (h.0, steps_have_no_fault steps earlier h.1 g)
+steps_have_no_fault (AccessStep access ∷ steps) earlier h g = (g.0, steps_have_no_fault steps (earlier ++ access ∷ []) h.1 g.1)
 
-found_nothing : (steps : List Step) (earlier : List AccessAt) → AllByRecursion IsNone (faults_in_steps earlier steps)
+steps_without_fault : (steps : List Step) (earlier : List AccessAt) → AllByRecursion IsNone (faults_in_steps earlier steps)
     → AllByRecursion Passes steps × NoConflicts earlier (filter_map access_of steps)
-found_nothing [] earlier h = (tt, tt)
-found_nothing (TestStep fault ∷ steps) earlier h = let others = found_nothing steps earlier h.1 in ((h.0, others.0), others.1)
-found_nothing (AccessStep access ∷ steps) earlier h = let others = found_nothing steps (earlier ++ access ∷ []) h.1 in ((tt, others.0), (h.0, others.1))
+steps_without_fault [] earlier h = (tt, tt)
+steps_without_fault (TestStep fault ∷ steps) earlier h = let others = steps_without_fault steps earlier h.1 in ((h.0, others.0), others.1)
+steps_without_fault (AccessStep access ∷ steps) earlier h = let others = steps_without_fault steps (earlier ++ access ∷ []) h.1 in ((tt, others.0), (h.0, others.1))
 
-pub steps_find_nothing : (steps : List Step) → AllPass steps → HaveOneMode (filter_map access_of steps) → AllByRecursion IsNone (faults_in_steps [] steps)
-steps_find_nothing steps h g = nothing_found steps [] h.all (no_conflicts (filter_map access_of steps) [] tt g)
+pub typed_steps_have_no_fault : (steps : List Step) → AllPass steps → HaveOneMode (filter_map access_of steps) → AllByRecursion IsNone (faults_in_steps [] steps)
+typed_steps_have_no_fault steps h g = steps_have_no_fault steps [] h.all (no_conflicts (filter_map access_of steps) [] tt g)
 
-pub nothing_in_steps : (steps : List Step) → AllByRecursion IsNone (faults_in_steps [] steps) → AllPass steps × HaveOneMode (filter_map access_of steps)
-nothing_in_steps steps h =
-    let parts = found_nothing steps [] h in
+pub typed_steps_without_fault : (steps : List Step) → AllByRecursion IsNone (faults_in_steps [] steps) → AllPass steps × HaveOneMode (filter_map access_of steps)
+typed_steps_without_fault steps h =
+    let parts = steps_without_fault steps [] h in
     (record { all = parts.0 }, (one_mode (filter_map access_of steps) [] parts.1).1)

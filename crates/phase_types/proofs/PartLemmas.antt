@@ -1,4 +1,4 @@
--- Parts are numbered by what stands before them, and stay where they are.
+-- Parts are numbered by the parts that precede them, and keep their numbers.
 use Rattle.std.proofs.Common.{◌≡◌, Bool, true, false, List, [], ◌∷◌, ◌++◌, length, refl, sym, ap, ◌∙◌}
 use Rattle.std.proofs.lemmas.List.{append-nil, append_assoc}
 use Rattle.std.proofs.lemmas.List.Elements.{filter_map-append}
@@ -39,7 +39,7 @@ mutual
   main_is_prefix site no_item = same_parts site.parts
   main_is_prefix site (item i rest) = prefix_of_prefix (item_is_prefix site i) (main_is_prefix (after_item site i) rest)
 
--- what stands behind a list is at its length
+-- the item after a list is at the index that is its length
 at_length : {A : Type 0} (front : List A) (x : A) (rest : List A) → slice_get (front ++ x ∷ rest) (length front) ≡ Some x
 at_length [] x rest = refl
 at_length (y ∷ front) x rest = at_length front x rest

@@ -1,4 +1,4 @@
--- The tests of the walk pass exactly where expressions, statements and bodies are typed.
+-- The tests of the walk pass if and only if expressions, statements and bodies are typed.
 use Rattle.std.proofs.Common.{◌≡◌, ℕ, Bool, true, false, not, List, [], ◌∷◌, ◌++◌, refl, sym, ap, subst, ◌∙◌}
 use Rattle.std.specs.List.{AllByRecursion}
 use Rattle.std.specs.Prelude.{Option, Some, None, is_some}
@@ -31,7 +31,7 @@ pub all_of_second : {A : Type 0} (P : A → Type 0) (xs ys : List A) → AllByRe
 all_of_second P [] ys h = h
 all_of_second P (x ∷ xs) ys h = all_of_second P xs ys h.1
 
--- STEPS THAT PASS: no test finds a fault
+-- STEPS THAT PASS: no test fails
 abbrev pub Passes : Step → Type 0
 Passes (TestStep fault) = fault ≡ None
 Passes (AccessStep access) = Unit {0}
@@ -97,15 +97,15 @@ mutual
   passes (IsNeg place h) = then (passes h) (fits_pass _ place (computed (IsNeg place h)))
   passes (IsNot place h) = then (passes h) (fits_pass _ place (computed (IsNot place h)))
   passes {environment = environment} (IsChain {links = links} level h rest) =
-      then (passes h) (subst (λ type. AllPass (link_steps environment type links)) (sym (computed h)) (passes_behind rest))
+      then (passes h) (subst (λ type. AllPass (link_steps environment type links)) (sym (computed h)) (links_pass rest))
   passes (AreNumbers place rel h g) = then (then (passes h) (passes g)) (fits_pass _ place (computed (AreNumbers place rel h g)))
   passes (AreElements place rel h g same) = then (then (passes h) (passes g)) (fits_pass _ place (computed (AreElements place rel h g same)))
 
-  passes_behind : {environment : Environment} {type : ValueType} {links : Links} → FollowsType environment type links → AllPass (link_steps environment (Some type) links)
-  passes_behind (NoLinks type) = none_pass
-  passes_behind {environment = environment} (OneLink {type = type} {arg = arg} {rest = links} sign place is h rest) =
+  links_pass : {environment : Environment} {type : ValueType} {links : Links} → FollowsType environment type links → AllPass (link_steps environment (Some type) links)
+  links_pass (NoLinks type) = none_pass
+  links_pass {environment = environment} (OneLink {type = type} {arg = arg} {rest = links} sign place is h rest) =
       then (then (passes h) (fits_pass _ place (operator_fits sign type (type_of environment arg) is (computed h))))
-      (subst (λ type. AllPass (link_steps environment type links)) (sym (operator_fits sign type (type_of environment arg) is (computed h))) (passes_behind rest))
+      (subst (λ type. AllPass (link_steps environment type links)) (sym (operator_fits sign type (type_of environment arg) is (computed h))) (links_pass rest))
 
 -- EXPRESSIONS that pass have a type
 name_passed : (place : Place) (global : Option Binding) → AllPass (name_steps place global) → (type : ValueType) × (Rattle.phase_types.specs.Types.name_type global ≡ Some type)
@@ -140,20 +140,20 @@ mutual
   passed environment (Not place arg) h = fitting _ place (second_of_both (steps_of environment arg) _ h)
   passed environment (Chain level first links) h =
       let one = passed environment first (first_of_both (steps_of environment first) (link_steps environment (type_of environment first) links) h) in
-      passed_behind environment links (type_of environment first) one.0 one.1 (second_of_both (steps_of environment first) (link_steps environment (type_of environment first) links) h)
+      links_passed environment links (type_of environment first) one.0 one.1 (second_of_both (steps_of environment first) (link_steps environment (type_of environment first) links) h)
   passed environment (Compare place rel left right) h = fitting _ place (second_of_both (steps_of environment left ++ steps_of environment right) _ h)
 
-  passed_behind : (environment : Environment) (links : Links) (type : Option ValueType) (found : ValueType) → type ≡ Some found
+  links_passed : (environment : Environment) (links : Links) (type : Option ValueType) (found : ValueType) → type ≡ Some found
       → AllPass (link_steps environment type links) → (last : ValueType) × (type_after_links environment type links ≡ Some last)
-  passed_behind environment no_links type found e h = (found, e)
-  passed_behind environment (link sign place arg rest) type found e h =
+  links_passed environment no_links type found e h = (found, e)
+  links_passed environment (link sign place arg rest) type found e h =
       let front = first_of_both (steps_of environment arg ++ type_requirement (operator_type sign type (type_of environment arg)) place)
       (link_steps environment (operator_type sign type (type_of environment arg)) rest) h in
       let one = fitting (operator_type sign type (type_of environment arg)) place (second_of_both (steps_of environment arg) _ front) in
-      passed_behind environment rest (operator_type sign type (type_of environment arg)) one.0 one.1
+      links_passed environment rest (operator_type sign type (type_of environment arg)) one.0 one.1
       (second_of_both (steps_of environment arg ++ type_requirement (operator_type sign type (type_of environment arg)) place) _ h)
 
--- what has to be a number or a truth value, and a new name
+-- an expression that must have a type, and a new name
 pub typed_pass : {environment : Environment} {e : Expression} {type : ValueType} → HasType environment e type → AllPass (typed_steps environment type e)
 typed_pass {e = e} {type = type} h = then (passes h) (needs_pass _ (place_of e) (has_its_type type (computed h)))
 
@@ -196,18 +196,18 @@ members_had set (Some NumberType) e = absurd cc
 members_had set (Some TruthType) e = absurd cc
 members_had set None e = absurd cc
 
-pub behind_are : {environment behind : Environment} {s : Statement} → StatementFits environment s behind → behind ≡ environment_after environment s
-behind_are (FitsVar place name at h is) = refl
-behind_are {environment = environment} (FitsVal place name at h is) = ap (λ found. with_val name found environment) (sym (computed h))
-behind_are (FitsField place name how is free h g) = refl
-behind_are (FitsScalar place name how is r h) = refl
-behind_are (FitsLocal place name how is h) = refl
-behind_are (FitsIf place has_else h f g) = refl
-behind_are (FitsWhile place h f) = refl
-behind_are (FitsFor place name at set set_at h has is f) = refl
+pub environment_after_is : {environment after_environment : Environment} {s : Statement} → StatementFits environment s after_environment → after_environment ≡ environment_after environment s
+environment_after_is (FitsVar place name at h is) = refl
+environment_after_is {environment = environment} (FitsVal place name at h is) = ap (λ found. with_val name found environment) (sym (computed h))
+environment_after_is (FitsField place name how is free h g) = refl
+environment_after_is (FitsScalar place name how is r h) = refl
+environment_after_is (FitsLocal place name how is h) = refl
+environment_after_is (FitsIf place has_else h f g) = refl
+environment_after_is (FitsWhile place h f) = refl
+environment_after_is (FitsFor place name at set set_at h has is f) = refl
 
 mutual
-  pub statement_passes : {environment behind : Environment} {s : Statement} → StatementFits environment s behind → AllPass (statement_steps environment s)
+  pub statement_passes : {environment after_environment : Environment} {s : Statement} → StatementFits environment s after_environment → AllPass (statement_steps environment s)
   statement_passes {environment = environment} (FitsVar place name at h is) = then (typed_pass h) (new_pass environment name at is)
   statement_passes {environment = environment} (FitsVal {init = init} place name at h is) =
       then (then (passes h) (val_passes _ (place_of init) (computed h))) (new_pass environment name at is)
@@ -228,9 +228,9 @@ mutual
   pub body_passes : {environment : Environment} {body : Body} → BodyFits environment body → AllPass (body_steps environment body)
   body_passes (FitsNothing environment) = none_pass
   body_passes (FitsThen {rest = rest} f g) =
-      then (statement_passes f) (subst (λ environment. AllPass (body_steps environment rest)) (behind_are f) (body_passes g))
+      then (statement_passes f) (subst (λ environment. AllPass (body_steps environment rest)) (environment_after_is f) (body_passes g))
 
--- and back: an assignment to F(x), and to a name
+-- STATEMENTS that pass are typed: an assignment to F(x), and to a name
 target_passed : (environment : Environment) (place : Place) (name : List ℕ) (how : How) (target set_to : Expression) (global : Option Binding) → binding_of environment name ≡ global
     → AllPass (field_target_steps place how global (type_of environment target) (steps_of environment target) (typed_steps environment NumberType set_to))
     → StatementFits environment (Assign place name (Some target) how set_to) environment

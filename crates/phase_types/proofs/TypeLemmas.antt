@@ -1,4 +1,4 @@
--- The type that is computed is the one that the typing relation gives.
+-- The computed type is that of the typing relation.
 use Rattle.std.proofs.Common.{◌≡◌, ℕ, Bool, true, false, List, refl, sym, ap, subst, ◌∙◌}
 use Rattle.std.proofs.lemmas.Bool.{and_parts}
 use Rattle.std.specs.Prelude.{Option, Some, None, ◌&&◌, if◌then◌else◌}
@@ -66,7 +66,7 @@ pub operator_fits : (sign : Sign) (type : ValueType) (arg : Option ValueType) �
 operator_fits sign type arg is e =
     ap (operator_type sign (Some type)) e ∙ subst (λ type. operator_type sign (Some type) (Some type) ≡ Some type) is (operator_own sign)
 
--- FROM THE RELATION to what is computed
+-- FROM THE RELATION to the computed type
 mutual
   pub computed : {environment : Environment} {e : Expression} {type : ValueType} → HasType environment e type → type_of environment e ≡ Some type
   computed (IsNumber place value) = refl
@@ -82,19 +82,19 @@ mutual
       ∙ chosen_by (are_towards_kinds kind other) (Some (ElementType kind)) None can
   computed (IsNeg place h) = ap (matching_type NumberType) (computed h)
   computed (IsNot place h) = ap (matching_type TruthType) (computed h)
-  computed {environment = environment} (IsChain {links = links} level h rest) = ap (λ type. type_after_links environment type links) (computed h) ∙ computed_behind rest
+  computed {environment = environment} (IsChain {links = links} level h rest) = ap (λ type. type_after_links environment type links) (computed h) ∙ computed_after_links rest
   computed {environment = environment} (AreNumbers {left = left} {right = right} place rel h g) =
       ap (λ type. comparison_type rel type (type_of environment right)) (computed h) ∙ ap (comparison_type rel (Some NumberType)) (computed g)
   computed {environment = environment} (AreElements {kind = kind} {left = left} {right = right} place rel h g same) =
       ap (λ type. comparison_type rel type (type_of environment right)) (computed h) ∙ ap (comparison_type rel (Some (ElementType kind))) (computed g)
       ∙ ap (λ b. if b && is_kind kind kind then Some TruthType else None) same ∙ chosen_by (is_kind kind kind) (Some TruthType) None (same_kind kind)
 
-  pub computed_behind : {environment : Environment} {type : ValueType} {links : Links} → FollowsType environment type links → type_after_links environment (Some type) links ≡ Some type
-  computed_behind (NoLinks type) = refl
-  computed_behind {environment = environment} (OneLink {type = type} {arg = arg} {rest = links} sign place is h rest) =
-      ap (λ type. type_after_links environment type links) (operator_fits sign type (type_of environment arg) is (computed h)) ∙ computed_behind rest
+  pub computed_after_links : {environment : Environment} {type : ValueType} {links : Links} → FollowsType environment type links → type_after_links environment (Some type) links ≡ Some type
+  computed_after_links (NoLinks type) = refl
+  computed_after_links {environment = environment} (OneLink {type = type} {arg = arg} {rest = links} sign place is h rest) =
+      ap (λ type. type_after_links environment type links) (operator_fits sign type (type_of environment arg) is (computed h)) ∙ computed_after_links rest
 
--- AND BACK. What an operator of a chain takes on both sides
+-- FROM THE COMPUTED TYPE to the relation: the operands of an operator of a chain
 pub operands_are : (sign : Sign) (left right : Option ValueType) (type : ValueType) → operator_type sign left right ≡ Some type
     → (left ≡ Some (operand_type sign)) × (right ≡ Some (operand_type sign)) × (operand_type sign ≡ type)
 operands_are sign left right type e = go (matching_type (operand_type sign) left) refl e where
@@ -106,12 +106,12 @@ operands_are sign left right type e = go (matching_type (operand_type sign) left
       let r = only_is (operand_type sign) right type e in
       (l.0, r.0, r.1)
 
--- the types of a chain's operands are all one
-pub behind_is : (environment : Environment) (links : Links) (type : Option ValueType) (found : ValueType) → type_after_links environment type links ≡ Some found
+-- the operands of a chain have one type
+pub type_after_links_is : (environment : Environment) (links : Links) (type : Option ValueType) (found : ValueType) → type_after_links environment type links ≡ Some found
     → type ≡ Some found
-behind_is environment no_links type found e = e
-behind_is environment (link sign place arg rest) type found e =
-    let is = operands_are sign type (type_of environment arg) found (behind_is environment rest (operator_type sign type (type_of environment arg)) found e) in
+type_after_links_is environment no_links type found e = e
+type_after_links_is environment (link sign place arg rest) type found e =
+    let is = operands_are sign type (type_of environment arg) found (type_after_links_is environment rest (operator_type sign type (type_of environment arg)) found e) in
     is.0 ∙ ap Some is.2
 
 name_typed : (environment : Environment) (place : Place) (name : List ℕ) (global : Option Binding) (type : ValueType) → binding_of environment name ≡ global
@@ -180,7 +180,7 @@ mutual
       let is = only_is TruthType (type_of environment arg) type e in
       subst (λ type. HasType environment (Not place arg) type) is.1 (IsNot place (typed environment arg TruthType is.0))
   typed environment (Chain level first links) type e =
-      IsChain level (typed environment first type (behind_is environment links (type_of environment first) type e)) (follows environment type links (type_of environment first) e)
+      IsChain level (typed environment first type (type_after_links_is environment links (type_of environment first) type e)) (follows environment type links (type_of environment first) e)
   typed environment (Compare place rel left right) type e =
       compare_typed environment place rel left right (type_of environment left) (type_of environment right) type refl refl (typed environment left) (typed environment right) e
 
@@ -188,5 +188,5 @@ mutual
       → FollowsType environment type links
   follows environment type no_links found e = NoLinks type
   follows environment type (link sign place arg rest) found e =
-      let is = operands_are sign found (type_of environment arg) type (behind_is environment rest (operator_type sign found (type_of environment arg)) type e) in
+      let is = operands_are sign found (type_of environment arg) type (type_after_links_is environment rest (operator_type sign found (type_of environment arg)) type e) in
       OneLink sign place is.2 (typed environment arg type (is.1 ∙ ap Some is.2)) (follows environment type rest (operator_type sign found (type_of environment arg)) e)

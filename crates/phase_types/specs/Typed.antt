@@ -48,7 +48,7 @@ mutual
 
   pub data BodyFits : Environment → Body → Type 0 where
     FitsNothing : (environment : Environment) → BodyFits environment no_statement
-    FitsThen : {environment behind : Environment} {s : Statement} {rest : Body} → StatementFits environment s behind → BodyFits behind rest
+    FitsThen : {environment after_environment : Environment} {s : Statement} {rest : Body} → StatementFits environment s after_environment → BodyFits after_environment rest
         → BodyFits environment (statement s rest)
 
 -- ONE MODE: two accesses to the same field or scalar have the same mode.

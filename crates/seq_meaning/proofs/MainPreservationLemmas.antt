@@ -1,4 +1,4 @@
--- What the main program keeps because each of its single changes of the state does: one induction over items and blocks.
+-- The main program preserves a relation that each of its single changes of the state preserves: one induction over items and blocks.
 use Rattle.std.proofs.Common.{◌≡◌, ℕ, suc, ◌≤◌, nat_lt, length, ◌++◌, [], ◌∷◌, refl, arith}
 use Rattle.std.specs.Prelude.{Option, Some, None, ℤ, Result, Ok, Err}
 use Rattle.liszt_base.specs.MeshLists.{MeshLists}
@@ -13,11 +13,11 @@ use Rattle.kernel_eval.specs.Preservation.{Preserves}
 use Rattle.kernel_eval.specs.Meaning.{assigned_value, no_meaning, trap, number_in, truth_in}
 use Rattle.kernel_eval.specs.Outcomes.{Stop, Outcome, continue_with, and_then}
 use Rattle.kernel_eval.specs.States.{State, scalar_value, with_scalar_value, main_evaluation}
-use Rattle.kernel_eval.proofs.ComputationLemmas.{LeadsOn, keeps_then, keeps_if, skip_keeps, keeps_loop}
+use Rattle.kernel_eval.proofs.ComputationLemmas.{IsPreorder, keeps_then, keeps_if, skip_keeps, keeps_loop}
 use Rattle.kernel_eval.proofs.PreservationLemmas.{keeps_number_in, keeps_truth_in}
 use Rattle.kernel_eval.proofs.ActLemmas.{turns_kept}
 use Rattle.seq_meaning.specs.Runs.{print_limit, Event, FieldDeclared, ScopeOpened, ScopeClosed, ComprehensionReached, Progress, log_event, lift_state, in_program, number_at, truth_at, with_field, with_scalar, modify_state, assign_main_scalar, assign_main_name, print_number, after_scope, in_scope, program_turns, after_iteration, comprehension, restored_outcome, all_or_nothing, item_meaning, main_meaning}
-use Rattle.seq_meaning.proofs.IterationLemmas.{each_stays}
+use Rattle.seq_meaning.proofs.IterationLemmas.{for_each_unchanged}
 
 pub record IsStateKept (R : State → State → Type 0) : Type 0 where
   pub same : (s : State) → R s s
@@ -36,12 +36,12 @@ module _ {R : State → State → Type 0} (k : IsStateKept R) where
   abbrev pub OfStates : Progress → Progress → Type 0
   OfStates p after = R p.state after.state
 
-  leads : LeadsOn OfStates
+  leads : IsPreorder OfStates
   leads = record { same = λ p. k.same p.state; later = λ a b c r s. k.later a.state b.state c.state r s }
 
   -- single steps
-  meets_keeps : (event : Event) → Preserves OfStates (log_event event)
-  meets_keeps event = record { preserved = λ p. k.same p.state }
+  log_event_keeps : (event : Event) → Preserves OfStates (log_event event)
+  log_event_keeps event = record { preserved = λ p. k.same p.state }
 
   no_meaning_keeps : {A : Type 0} → Preserves OfStates (in_program (no_meaning {A = A}))
   no_meaning_keeps = record { preserved = λ p. k.same p.state }
@@ -66,8 +66,8 @@ module _ {R : State → State → Type 0} (k : IsStateKept R) where
   print_keeps : (n : ℤ) → Preserves OfStates (modify_state (λ s. record s { prints = s.prints ++ n ∷ [] }))
   print_keeps n = record { preserved = λ p. k.print n p.state }
 
-  printed_keeps : (place : Place) (n : ℤ) → Preserves OfStates (print_number place n)
-  printed_keeps place n = record {
+  print_number_keeps : (place : Place) (n : ℤ) → Preserves OfStates (print_number place n)
+  print_number_keeps place n = record {
     preserved = λ p. (keeps_if (nat_lt (length p.state.prints) print_limit) (print_keeps n) (traps_keep Prints place)).preserved p;
   }
 
@@ -85,7 +85,7 @@ module _ {R : State → State → Type 0} (k : IsStateKept R) where
   pub scope_keeps : {block : Progress → Outcome Progress (Unit {0})} (number : ℕ) → Preserves OfStates block → Preserves OfStates (in_scope number block)
   scope_keeps {block = block} number h = record {
     preserved = λ p. k.later p.state _ _
-        (scope_end p (and_then (log_event (ScopeOpened number)) (λ done. block) p).after ((keeps_then leads (meets_keeps (ScopeOpened number)) (λ done. h)).preserved p)
+        (scope_end p (and_then (log_event (ScopeOpened number)) (λ done. block) p).after ((keeps_then leads (log_event_keeps (ScopeOpened number)) (λ done. h)).preserved p)
         (and_then (log_event (ScopeOpened number)) (λ done. block) p).answer)
         ((keeps_go (ScopeClosed number)) _ _);
   } where
@@ -94,24 +94,24 @@ module _ {R : State → State → Type 0} (k : IsStateKept R) where
     keeps_go event s (Ok done) = k.same s.state
     keeps_go event s (Err stop) = k.same s.state
 
-  whole_keeps : (before after : State) (answer : Result (Unit {0}) Stop) → R before after → R before (restored_outcome before after answer).after
-  whole_keeps before after (Ok done) r = r
-  whole_keeps before after (Err stop) r = k.same before
+  restored_outcome_keeps : (before after : State) (answer : Result (Unit {0}) Stop) → R before after → R before (restored_outcome before after answer).after
+  restored_outcome_keeps before after (Ok done) r = r
+  restored_outcome_keeps before after (Err stop) r = k.same before
 
   comprehension_keeps : (mesh : MeshLists) (c : Comprehension) (turns : ℕ) → Preserves OfStates (lift_state (all_or_nothing (comprehension mesh c turns)))
   comprehension_keeps mesh c turns = record {
-    preserved = λ p. whole_keeps p.state (comprehension mesh c turns p.state).after (comprehension mesh c turns p.state).answer (k.over mesh c turns p.state);
+    preserved = λ p. restored_outcome_keeps p.state (comprehension mesh c turns p.state).after (comprehension mesh c turns p.state).answer (k.over mesh c turns p.state);
   }
 
-  turn_taken : (n : ℕ) (p : Progress) → p.state.turns ≡ suc n → OfStates p (record p { state = record p.state { turns = n } })
-  turn_taken n p e = k.turn n p.state e
+  take_turn_ends : (n : ℕ) (p : Progress) → p.state.turns ≡ suc n → OfStates p (record p { state = record p.state { turns = n } })
+  take_turn_ends n p e = k.turn n p.state e
 
   -- items
   mutual
     item_keeps : (mesh : MeshLists) (turns : ℕ) (site : Site) (i : MainItem) → Preserves OfStates (item_meaning mesh turns site i)
     item_keeps mesh turns site (MainField place name at kind init) =
         keeps_then leads (number_keeps mesh site init) (λ n. keeps_then leads (declared_keeps (next_field site) (count mesh kind) n)
-        (λ done. meets_keeps (FieldDeclared (next_field site) n)))
+        (λ done. log_event_keeps (FieldDeclared (next_field site) n)))
     item_keeps mesh turns site (MainVar place name at init) = keeps_then leads (number_keeps mesh site init) (λ n. variable_keeps (next_scalar site) n)
     item_keeps mesh turns site (MainAssign place name how value) =
         keeps_then leads (number_keeps mesh site value) (λ n. name_keeps how n (binding_of site.environment name))
@@ -119,17 +119,17 @@ module _ {R : State → State → Type 0} (k : IsStateKept R) where
         keeps_then leads (truth_keeps mesh site test) (λ b. keeps_if b (scope_keeps (next_scope site) (main_keeps mesh turns (block_start site) first))
         (keeps_if (has_else_block second has_else) (scope_keeps _ (main_keeps mesh turns _ second)) (skip_keeps leads)))
     item_keeps mesh turns site (MainWhile place test body) =
-        keeps_loop leads program_turns turn_taken (traps_keep Spent place) (truth_keeps mesh site test)
+        keeps_loop leads program_turns take_turn_ends (traps_keep Spent place) (truth_keeps mesh site test)
         (scope_keeps (next_scope site) (main_keeps mesh turns (block_start site) body))
     item_keeps mesh turns site (MainFor place name at over body) =
-        keeps_then leads (meets_keeps (ComprehensionReached (next_comprehension site))) (λ done. comprehension_keeps mesh (comprehension_at site name over body) turns)
-    item_keeps mesh turns site (Print place value) = keeps_then leads (number_keeps mesh site value) (λ n. printed_keeps place n)
+        keeps_then leads (log_event_keeps (ComprehensionReached (next_comprehension site))) (λ done. comprehension_keeps mesh (comprehension_at site name over body) turns)
+    item_keeps mesh turns site (Print place value) = keeps_then leads (number_keeps mesh site value) (λ n. print_number_keeps place n)
 
     pub main_keeps : (mesh : MeshLists) (turns : ℕ) (site : Site) (program : Main) → Preserves OfStates (main_meaning mesh turns site program)
     main_keeps mesh turns site no_item = skip_keeps leads
     main_keeps mesh turns site (item i rest) = keeps_then leads (item_keeps mesh turns site i) (λ done. main_keeps mesh turns (after_item site i) rest)
 
--- TURNS never rise
+-- TURNS do not increase
 abbrev pub Fewer : State → State → Type 0
 Fewer s after = after.turns ≤ s.turns
 
@@ -146,5 +146,5 @@ fewer_kept =
       turn = λ n s e. omega (arith, e);
       number = λ mesh environment e s. (keeps_number_in turns_kept mesh environment e (λ a t. tt {0})).preserved (main_evaluation s);
       truth = λ mesh environment e s. (keeps_truth_in turns_kept mesh environment e (λ a t. tt {0})).preserved (main_evaluation s);
-      over = λ mesh c turns s. omega (arith, each_stays (λ s. s.turns) (after_iteration mesh c turns) (λ id s. refl) (numbers 0 (count mesh c.over)) s);
+      over = λ mesh c turns s. omega (arith, for_each_unchanged (λ s. s.turns) (after_iteration mesh c turns) (λ id s. refl) (numbers 0 (count mesh c.over)) s);
     }

@@ -1,4 +1,4 @@
--- What the main program leaves of a state: the fields and scalars from before, behind new ones, with as many values each.
+-- The main program preserves the fields and scalars at entry and their numbers of values, with new ones in front.
 use Rattle.std.proofs.Common.{◌≡◌, ℕ, ◌-◌, List, [], ◌∷◌, length, drop, refl, sym, ap, ◌∙◌, arith}
 use Rattle.std.proofs.lemmas.List.{drop-map, length-map}
 use Rattle.liszt_base.specs.MeshLists.{MeshLists}
@@ -8,14 +8,14 @@ use Rattle.kernel_eval.specs.Iterations.{iteration_start}
 use Rattle.kernel_eval.specs.Outcomes.{for_each}
 use Rattle.kernel_eval.specs.States.{State, main_evaluation}
 use Rattle.kernel_eval.proofs.PreservationLemmas.{keeps_number_in, keeps_truth_in, keeps_body}
-use Rattle.kernel_eval.proofs.ShapeLemmas.{shaped, shape, nothing_of, length_of, IsLike, like_itself, Extends, further, dropped, map_update_shape, shapes_kept}
+use Rattle.kernel_eval.proofs.ShapeLemmas.{shaped, shape, unit_of, length_of, IsLike, like_itself, Extends, further, dropped, map_update_shape, shapes_kept}
 use Rattle.seq_meaning.specs.Runs.{after_scope, after_iteration}
-use Rattle.seq_meaning.proofs.IterationLemmas.{each_stays}
+use Rattle.seq_meaning.proofs.IterationLemmas.{for_each_unchanged}
 use Rattle.seq_meaning.proofs.MainPreservationLemmas.{IsStateKept}
 
 pub record Grows (s t : State) : Type 0 where
   pub fields : Extends (shape length_of s.fields) (shape length_of t.fields)
-  pub scalars : Extends (shape nothing_of s.scalars) (shape nothing_of t.scalars)
+  pub scalars : Extends (shape unit_of s.scalars) (shape unit_of t.scalars)
 
 grows_like : (s t : State) → IsLike s t → Grows s t
 grows_like s t like = record { fields = record { new = []; is = like.fields }; scalars = record { new = []; is = like.scalars } }
@@ -28,13 +28,13 @@ dropped_shape of before after e =
     sym (drop-map (shaped of) (length after - length before) after) ∙ ap (λ n. drop n (shape of after)) long ∙ dropped (shape of before) (shape of after) e
 
 pub scope_like : (before s : State) → Grows before s → IsLike before (after_scope before s)
-scope_like before s r = record { fields = dropped_shape length_of before.fields s.fields r.fields; scalars = dropped_shape nothing_of before.scalars s.scalars r.scalars }
+scope_like before s r = record { fields = dropped_shape length_of before.fields s.fields r.fields; scalars = dropped_shape unit_of before.scalars s.scalars r.scalars }
 
 pub over_like : (mesh : MeshLists) (c : Comprehension) (turns : ℕ) (ids : List ℕ) (s : State) → IsLike s (for_each (after_iteration mesh c turns) ids s).after
 over_like mesh c turns ids s = record {
-  fields = each_stays (λ s. shape length_of s.fields) (after_iteration mesh c turns)
+  fields = for_each_unchanged (λ s. shape length_of s.fields) (after_iteration mesh c turns)
       (λ id s. ((keeps_body shapes_kept mesh c.environment c.body (λ a t. tt)).preserved (iteration_start c turns s id)).like.fields) ids s;
-  scalars = each_stays (λ s. shape nothing_of s.scalars) (after_iteration mesh c turns)
+  scalars = for_each_unchanged (λ s. shape unit_of s.scalars) (after_iteration mesh c turns)
       (λ id s. ((keeps_body shapes_kept mesh c.environment c.body (λ a t. tt)).preserved (iteration_start c turns s id)).like.scalars) ids s;
 }
 

@@ -1,4 +1,4 @@
--- A typed program ends, done or by a trap: from a state that fits the names at a place, each item comes to one that fits those behind it.
+-- A typed program ends, done or by a trap: from a state that fits the environment at a site, each item results in one that fits the environment after it.
 use Rattle.std.proofs.Common.{◌≡◌, ◌⊎◌, ℕ, zero, suc, ◌+◌, ◌<◌, ◌≤◌, ◌==◌, nat_lt, Bool, true, false, List, [], ◌∷◌, ◌++◌, length, refl, sym, ap, subst, ◌∙◌, inl, inr, arith, ne_eqb, eq-eqb}
 use Rattle.std.proofs.lemmas.Bool.{cases_Bool, le-ltb}
 use Rattle.std.proofs.lemmas.List.{append_assoc, length-append, length-replicate}
@@ -26,13 +26,13 @@ use Rattle.kernel_eval.specs.Meaning.{assigned_value, trap}
 use Rattle.kernel_eval.specs.Outcomes.{Stop, Trapped, NoMeaning, Outcome, continue_with, for_each, skip, take_turn, loop_within, loop}
 use Rattle.kernel_eval.specs.States.{State, EvaluationState, scalar_value, main_evaluation}
 use Rattle.kernel_eval.specs.Iterations.{iteration, end_of}
-use Rattle.kernel_eval.proofs.TypedEvaluationLemmas.{EndsIn, Comes, Ends, ends_then, ends_if, EvaluationFits, at_first, Fits, number_ends, truth_ends, is_an_end, iteration_ends, iteration_fits}
+use Rattle.kernel_eval.proofs.TypedEvaluationLemmas.{EndsIn, OutcomeEnds, Ends, ends_then, ends_if, EvaluationFits, at_first, Fits, number_ends, truth_ends, is_an_end, iteration_ends, iteration_fits}
 use Rattle.kernel_eval.proofs.ShapeLemmas.{still_fits, map_update_shape}
 use Rattle.seq_meaning.specs.Runs.{print_limit, Event, Progress, ScopeOpened, ScopeClosed, FieldDeclared, ComprehensionReached, log_event, lift_state, in_program, number_at, truth_at, with_field, with_scalar, modify_state, assign_main_scalar, assign_main_name, print_number, after_scope, in_scope, program_turns, after_iteration, comprehension, restored_outcome, all_or_nothing, item_meaning, main_meaning, empty, run, run_end}
 use Rattle.seq_meaning.proofs.StateShapeLemmas.{Grows, scope_like, grows_kept}
 use Rattle.seq_meaning.proofs.MainPreservationLemmas.{OfStates, main_keeps}
 
--- NUMBERS AHEAD are new: those of visible fields and scalars are below
+-- THE NEXT NUMBERS are new: those of visible fields and scalars are smaller
 record IsFresh (site : Site) : Type 0 where
   pub fields : (name : List ℕ) (number : ℕ) (kind : Kind) → binding_of site.environment name ≡ Some (FieldName number kind) → number < next_field site
   pub scalars : (name : List ℕ) (number : ℕ) → binding_of site.environment name ≡ Some (ScalarName number) → number < next_scalar site
@@ -41,25 +41,25 @@ more_of : {A : Type 0} (sort : Part → Option A) (before after : List Part) →
 more_of sort before after on =
     omega (arith, ap (λ parts. length (filter_map sort parts)) on.appended, ap (λ xs. length xs) (filter_map-append sort before on.rest), length-append (filter_map sort before) (filter_map sort on.rest))
 
--- the same names, with further parts before
+-- the same environment, with further parts
 fresh_on : (site there : Site) → there.environment ≡ site.environment → IsPrefix site.parts there.parts → IsFresh site → IsFresh there
 fresh_on site there same on fresh = record {
   fields = λ name number kind is. omega (arith, fresh.fields name number kind (ap (λ environment. binding_of environment name) (sym same) ∙ is), more_of field_part site.parts there.parts on);
   scalars = λ name number is. omega (arith, fresh.scalars name number (ap (λ environment. binding_of environment name) (sym same) ∙ is), more_of scalar_part site.parts there.parts on);
 }
 
-one_part : (before : List Part) (part : Part) → IsPrefix before (before ++ part ∷ [])
-one_part before part = record { rest = part ∷ []; appended = refl }
+appended_part : (before : List Part) (part : Part) → IsPrefix before (before ++ part ∷ [])
+appended_part before part = record { rest = part ∷ []; appended = refl }
 
-onward : {a b c : List Part} → IsPrefix a b → IsPrefix b c → IsPrefix a c
-onward {a = a} r s = record { rest = r.rest ++ s.rest; appended = s.appended ∙ ap (λ parts. parts ++ s.rest) r.appended ∙ append_assoc a r.rest s.rest }
+prefix_transitive : {a b c : List Part} → IsPrefix a b → IsPrefix b c → IsPrefix a c
+prefix_transitive {a = a} r s = record { rest = r.rest ++ s.rest; appended = s.appended ∙ ap (λ parts. parts ++ s.rest) r.appended ∙ append_assoc a r.rest s.rest }
 
 block_fresh : (site : Site) → IsFresh site → IsFresh (block_start site)
-block_fresh site = fresh_on site (block_start site) refl (one_part site.parts _)
+block_fresh site = fresh_on site (block_start site) refl (appended_part site.parts _)
 
--- a name in front
-in_front : (environment : Environment) (name other : List ℕ) (entry found : Binding) → binding_of ((name, entry) ∷ environment) other ≡ Some found → (entry ≡ found) ⊎ (binding_of environment other ≡ Some found)
-in_front environment name other entry found e = elim (cases_Bool (bytes_eq other name)) as (λ c. (entry ≡ found) ⊎ (binding_of environment other ≡ Some found)) [
+-- an environment with a further binding
+first_or_rest_binding : (environment : Environment) (name other : List ℕ) (entry found : Binding) → binding_of ((name, entry) ∷ environment) other ≡ Some found → (entry ≡ found) ⊎ (binding_of environment other ≡ Some found)
+first_or_rest_binding environment name other entry found e = elim (cases_Bool (bytes_eq other name)) as (λ c. (entry ≡ found) ⊎ (binding_of environment other ≡ Some found)) [
   | inl is ↦ inl (let f : Some entry ≡ Some found = rw is at e in cc)
   | inr is ↦ inr (rw is at e)
 ]
@@ -73,7 +73,7 @@ IsLow (ElementName kind) = ⊥
 
 low_ones : (environment : Environment) (name : List ℕ) (entry : Binding) → AllByRecursion (λ pair. IsLow pair.1) environment → binding_of environment name ≡ Some entry → IsLow entry
 low_ones [] name entry all e = absurd cc
-low_ones (pair ∷ environment) name entry all e = elim (in_front environment pair.0 name pair.1 entry e) as (λ c. IsLow entry) [
+low_ones (pair ∷ environment) name entry all e = elim (first_or_rest_binding environment pair.0 name pair.1 entry e) as (λ c. IsLow entry) [
   | inl is ↦ subst IsLow is all.0
   | inr old ↦ low_ones environment name entry all.1 old
 ]
@@ -93,7 +93,7 @@ start_fresh = record {
   scalars = λ name number e. absurd (built_in_low name (ScalarName number) e);
 }
 
--- behind a field and a scalar
+-- after a field and a scalar
 field_number : (site : Site) (name : List ℕ) (kind : Kind) → next_field (field_site name kind site) ≡ next_field site + 1
 field_number site name kind =
     omega (
@@ -104,13 +104,13 @@ field_number site name kind =
 
 field_fresh : (site : Site) (name : List ℕ) (kind : Kind) → IsFresh site → IsFresh (field_site name kind site)
 field_fresh site name kind fresh = record {
-  fields = λ other number of is. elim (in_front site.environment name other (FieldName (next_field site) kind) (FieldName number of) is) as (λ c. number < next_field (field_site name kind site)) [
+  fields = λ other number of is. elim (first_or_rest_binding site.environment name other (FieldName (next_field site) kind) (FieldName number of) is) as (λ c. number < next_field (field_site name kind site)) [
     | inl e ↦ let same : next_field site ≡ number = cc in omega (arith, same, field_number site name kind)
     | inr old ↦ omega (arith, fresh.fields other number of old, field_number site name kind)
   ];
-  scalars = λ other number is. elim (in_front site.environment name other (FieldName (next_field site) kind) (ScalarName number) is) as (λ c. number < next_scalar (field_site name kind site)) [
+  scalars = λ other number is. elim (first_or_rest_binding site.environment name other (FieldName (next_field site) kind) (ScalarName number) is) as (λ c. number < next_scalar (field_site name kind site)) [
     | inl e ↦ absurd cc
-    | inr old ↦ omega (arith, fresh.scalars other number old, more_of scalar_part site.parts (field_site name kind site).parts (one_part site.parts _))
+    | inr old ↦ omega (arith, fresh.scalars other number old, more_of scalar_part site.parts (field_site name kind site).parts (appended_part site.parts _))
   ];
 }
 
@@ -120,17 +120,17 @@ scalar_number site name =
 
 scalar_fresh : (site : Site) (name : List ℕ) → IsFresh site → IsFresh (scalar_site name site)
 scalar_fresh site name fresh = record {
-  fields = λ other number of is. elim (in_front site.environment name other (ScalarName (next_scalar site)) (FieldName number of) is) as (λ c. number < next_field (scalar_site name site)) [
+  fields = λ other number of is. elim (first_or_rest_binding site.environment name other (ScalarName (next_scalar site)) (FieldName number of) is) as (λ c. number < next_field (scalar_site name site)) [
     | inl e ↦ absurd cc
-    | inr old ↦ omega (arith, fresh.fields other number of old, more_of field_part site.parts (scalar_site name site).parts (one_part site.parts _))
+    | inr old ↦ omega (arith, fresh.fields other number of old, more_of field_part site.parts (scalar_site name site).parts (appended_part site.parts _))
   ];
-  scalars = λ other number is. elim (in_front site.environment name other (ScalarName (next_scalar site)) (ScalarName number) is) as (λ c. number < next_scalar (scalar_site name site)) [
+  scalars = λ other number is. elim (first_or_rest_binding site.environment name other (ScalarName (next_scalar site)) (ScalarName number) is) as (λ c. number < next_scalar (scalar_site name site)) [
     | inl e ↦ let same : next_scalar site ≡ number = cc in omega (arith, same, scalar_number site name)
     | inr old ↦ omega (arith, fresh.scalars other number old, scalar_number site name)
   ];
 }
 
--- behind an item the names are those of a declaration, or the same
+-- after an item the environment has the binding of a declaration, or is the same
 environment_after_if : (site : Site) (place : Place) (test : Expression) (first second : Main) (has_else : Bool) → (after_item site (MainIf place test first second has_else)).environment ≡ site.environment
 environment_after_if site place test first second has_else = go (has_else_block second has_else) _ _ refl refl where
   go : (b : Bool) (this other : Site) → this.environment ≡ site.environment → other.environment ≡ site.environment → (if b then this else other).environment ≡ site.environment
@@ -140,7 +140,7 @@ environment_after_if site place test first second has_else = go (has_else_block 
 first_fresh : (site : Site) (first : Main) → IsFresh site → IsFresh (block_start (after_block site (after_main (block_start site) first)))
 first_fresh site first fresh =
     fresh_on site (block_start (after_block site (after_main (block_start site) first))) refl
-    (onward (onward (one_part site.parts (ScopePart site.scope)) (main_is_prefix (block_start site) first)) (one_part (after_main (block_start site) first).parts _)) fresh
+    (prefix_transitive (prefix_transitive (appended_part site.parts (ScopePart site.scope)) (main_is_prefix (block_start site) first)) (appended_part (after_main (block_start site) first).parts _)) fresh
 
 fresh_after : (site : Site) (i : MainItem) → ItemFits site i → IsFresh site → IsFresh (after_item site i)
 fresh_after site _ (FitsMainField place name at kind h is) fresh = field_fresh site name kind fresh
@@ -152,13 +152,13 @@ fresh_after site i (FitsMainWhile place h f) fresh = fresh_on site (after_item s
 fresh_after site i (FitsMainFor place name at over is h) fresh = fresh_on site (after_item site i) refl (item_is_prefix site i) fresh
 fresh_after site i (FitsPrint place h) fresh = fresh
 
--- A STATE THAT FITS goes on fitting behind a declaration
+-- A STATE THAT FITS fits after a declaration
 module _ (mesh : MeshLists) where
   abbrev FitsAt : Site → Progress → Type 0
   FitsAt site p = StateFits mesh site.environment p.state
 
-  abbrev Nothing : Unit {0} → Type 0
-  Nothing done = Unit {0}
+  abbrev AnyUnit : Unit {0} → Type 0
+  AnyUnit done = Unit {0}
 
   abbrev Any : {A : Type 0} → A → Type 0
   Any a = Unit {0}
@@ -168,7 +168,7 @@ module _ (mesh : MeshLists) where
 
   field_fits : (site : Site) (name : List ℕ) (kind : Kind) (n : ℤ) (s : State) → IsFresh site → StateFits mesh site.environment s
       → StateFits mesh (field_site name kind site).environment (with_field (next_field site) (count mesh kind) n s)
-  field_fits site name kind n s fresh h = record { entry_fits = λ other entry e. go other entry (in_front site.environment name other (FieldName (next_field site) kind) entry e) } where
+  field_fits site name kind n s fresh h = record { entry_fits = λ other entry e. go other entry (first_or_rest_binding site.environment name other (FieldName (next_field site) kind) entry e) } where
     after : State
     after = with_field (next_field site) (count mesh kind) n s
 
@@ -189,7 +189,7 @@ module _ (mesh : MeshLists) where
 
   scalar_fits : (site : Site) (name : List ℕ) (n : ℤ) (s : State) → IsFresh site → StateFits mesh site.environment s
       → StateFits mesh (scalar_site name site).environment (with_scalar (next_scalar site) n s)
-  scalar_fits site name n s fresh h = record { entry_fits = λ other entry e. go other entry (in_front site.environment name other (ScalarName (next_scalar site)) entry e) } where
+  scalar_fits site name n s fresh h = record { entry_fits = λ other entry e. go other entry (first_or_rest_binding site.environment name other (ScalarName (next_scalar site)) entry e) } where
     after : State
     after = with_scalar (next_scalar site) n s
 
@@ -224,54 +224,54 @@ module _ (mesh : MeshLists) where
   truth_at_ends site h = in_program_ends site (truth_ends mesh site.environment site.environment h)
 
   -- SINGLE STEPS
-  meets_ends : (site : Site) (event : Event) → Ends (FitsAt site) Nothing (FitsAt site) (log_event event)
-  meets_ends site event = record { ends = λ p h. (tt, h) }
+  log_event_ends : (site : Site) (event : Event) → Ends (FitsAt site) AnyUnit (FitsAt site) (log_event event)
+  log_event_ends site event = record { ends = λ p h. (tt, h) }
 
-  nothing_ends : (site : Site) → Ends (FitsAt site) Nothing (FitsAt site) (skip {S = Progress})
-  nothing_ends site = record { ends = λ p h. (tt, h) }
+  skip_ends : (site : Site) → Ends (FitsAt site) AnyUnit (FitsAt site) (skip {S = Progress})
+  skip_ends site = record { ends = λ p h. (tt, h) }
 
-  spent_ends : (site : Site) (place : Place) → Ends (FitsAt site) Nothing (FitsAt site) (in_program (trap Spent place))
+  spent_ends : (site : Site) (place : Place) → Ends (FitsAt site) AnyUnit (FitsAt site) (in_program (trap Spent place))
   spent_ends site place = record { ends = λ p h. tt }
 
-  weaker : {F G H : Progress → Type 0} {computation : Progress → Outcome Progress (Unit {0})} → ((p : Progress) → G p → H p) → Ends F Nothing G computation → Ends F Nothing H computation
+  weaker : {F G H : Progress → Type 0} {computation : Progress → Outcome Progress (Unit {0})} → ((p : Progress) → G p → H p) → Ends F AnyUnit G computation → Ends F AnyUnit H computation
   weaker {F} {G} {H} {computation} f e = record { ends = λ p h. go (computation p).after (computation p).answer (e.ends p h) } where
-    go : (after : Progress) (answer : Result (Unit {0}) Stop) → EndsIn Nothing G after answer → EndsIn Nothing H after answer
+    go : (after : Progress) (answer : Result (Unit {0}) Stop) → EndsIn AnyUnit G after answer → EndsIn AnyUnit H after answer
     go after (Ok done) e = (tt, f after e.1)
     go after (Err (Trapped trap)) e = tt
     go after (Err NoMeaning) e = e
 
   declared_ends : (site : Site) (name : List ℕ) (kind : Kind) (n : ℤ) → IsFresh site
-      → Ends (FitsAt site) Nothing (FitsAt (field_site name kind site)) (modify_state (with_field (next_field site) (count mesh kind) n))
+      → Ends (FitsAt site) AnyUnit (FitsAt (field_site name kind site)) (modify_state (with_field (next_field site) (count mesh kind) n))
   declared_ends site name kind n fresh = record { ends = λ p h. (tt, field_fits site name kind n p.state fresh h) }
 
   variable_ends : (site : Site) (name : List ℕ) (n : ℤ) → IsFresh site
-      → Ends (FitsAt site) Nothing (FitsAt (scalar_site name site)) (modify_state (with_scalar (next_scalar site) n))
+      → Ends (FitsAt site) AnyUnit (FitsAt (scalar_site name site)) (modify_state (with_scalar (next_scalar site) n))
   variable_ends site name n fresh = record { ends = λ p h. (tt, scalar_fits site name n p.state fresh h) }
 
   assigned_ends : (site : Site) (how : How) (n : ℤ) (number : ℕ) (p : Progress) (value : Option ℤ) → FitsAt site p → is_some value ≡ true
-      → Comes Nothing (FitsAt site) (assign_main_scalar how n number value p)
+      → OutcomeEnds AnyUnit (FitsAt site) (assign_main_scalar how n number value p)
   assigned_ends site how n number p (Some old) h e = (tt, still_fits (record { fields = refl; scalars = map_update_shape _ (assigned_value how old n) p.state.scalars }) h)
   assigned_ends site how n number p None h e = absurd cc
 
   name_ends : (site : Site) (name : List ℕ) (how : How) (n : ℤ) (number : ℕ) → binding_of site.environment name ≡ Some (ScalarName number)
-      → Ends (FitsAt site) Nothing (FitsAt site) (assign_main_name how n (binding_of site.environment name))
-  name_ends site name how n number is = subst (λ global. Ends (FitsAt site) Nothing (FitsAt site) (assign_main_name how n global)) (sym is)
+      → Ends (FitsAt site) AnyUnit (FitsAt site) (assign_main_name how n (binding_of site.environment name))
+  name_ends site name how n number is = subst (λ global. Ends (FitsAt site) AnyUnit (FitsAt site) (assign_main_name how n global)) (sym is)
       (record { ends = λ p h. assigned_ends site how n number p (scalar_value p.state number) h (h.entry_fits name (ScalarName number) is) })
 
-  added_ends : (site : Site) (n : ℤ) → Ends (FitsAt site) Nothing (FitsAt site) (modify_state (λ s. record s { prints = s.prints ++ n ∷ [] }))
+  added_ends : (site : Site) (n : ℤ) → Ends (FitsAt site) AnyUnit (FitsAt site) (modify_state (λ s. record s { prints = s.prints ++ n ∷ [] }))
   added_ends site n = record { ends = λ p h. (tt, still_fits (record { fields = refl; scalars = refl }) h) }
 
-  prints_end : (site : Site) (place : Place) → Ends (FitsAt site) Nothing (FitsAt site) (in_program (trap Prints place))
+  prints_end : (site : Site) (place : Place) → Ends (FitsAt site) AnyUnit (FitsAt site) (in_program (trap Prints place))
   prints_end site place = record { ends = λ p h. tt }
 
-  printed_ends : (site : Site) (place : Place) (n : ℤ) → Ends (FitsAt site) Nothing (FitsAt site) (print_number place n)
-  printed_ends site place n = record {
+  print_number_ends : (site : Site) (place : Place) (n : ℤ) → Ends (FitsAt site) AnyUnit (FitsAt site) (print_number place n)
+  print_number_ends site place n = record {
     ends = λ p h. (ends_if (nat_lt (length p.state.prints) print_limit) (added_ends site n) (prints_end site place)).ends p h;
   }
 
   -- SCOPES and loops
   scope_ends : (site inner : Site) {block : Progress → Outcome Progress (Unit {0})} (number : ℕ) → inner.environment ≡ site.environment → Preserves (OfStates grows_kept) block
-      → Ends (FitsAt inner) Nothing Any block → Ends (FitsAt site) Nothing (FitsAt site) (in_scope number block)
+      → Ends (FitsAt inner) AnyUnit Any block → Ends (FitsAt site) AnyUnit (FitsAt site) (in_scope number block)
   scope_ends site inner {block = block} number same keeps e = record {
     ends = λ p h. go p h (block (opened p)).after (block (opened p)).answer (keeps.preserved (opened p))
         (e.ends (opened p) (subst (λ environment. StateFits mesh environment p.state) (sym same) h));
@@ -282,67 +282,67 @@ module _ (mesh : MeshLists) where
     closed : Progress → Outcome Progress (Unit {0}) → Outcome Progress (Unit {0})
     closed p outcome = continue_with (λ done. log_event (ScopeClosed number)) outcome.after outcome.answer
 
-    go : (p : Progress) → FitsAt site p → (after : Progress) (answer : Result (Unit {0}) Stop) → Grows p.state after.state → EndsIn Nothing Any after answer
-        → Comes Nothing (FitsAt site) (closed p (continue_with (λ done. modify_state (after_scope p.state)) after answer))
+    go : (p : Progress) → FitsAt site p → (after : Progress) (answer : Result (Unit {0}) Stop) → Grows p.state after.state → EndsIn AnyUnit Any after answer
+        → OutcomeEnds AnyUnit (FitsAt site) (closed p (continue_with (λ done. modify_state (after_scope p.state)) after answer))
     go p h after (Ok done) grows e = (tt, still_fits (scope_like p.state after.state grows) h)
     go p h after (Err (Trapped trap)) grows e = tt
     go p h after (Err NoMeaning) grows e = e
 
-  turn_ends : (site : Site) (place : Place) {body : Progress → Outcome Progress (Unit {0})} → Ends (FitsAt site) Nothing (FitsAt site) body
-      → Ends (FitsAt site) Nothing (FitsAt site) (λ p. take_turn program_turns (in_program (trap Spent place)) body p.state.turns p)
+  turn_ends : (site : Site) (place : Place) {body : Progress → Outcome Progress (Unit {0})} → Ends (FitsAt site) AnyUnit (FitsAt site) body
+      → Ends (FitsAt site) AnyUnit (FitsAt site) (λ p. take_turn program_turns (in_program (trap Spent place)) body p.state.turns p)
   turn_ends site place {body = body} e = record { ends = λ p h. go p.state.turns p h } where
-    go : (left : ℕ) (p : Progress) → FitsAt site p → Comes Nothing (FitsAt site) (take_turn program_turns (in_program (trap Spent place)) body left p)
+    go : (left : ℕ) (p : Progress) → FitsAt site p → OutcomeEnds AnyUnit (FitsAt site) (take_turn program_turns (in_program (trap Spent place)) body left p)
     go zero p h = tt
     go (suc n) p h = e.ends (record p { state = record p.state { turns = n } }) (still_fits (record { fields = refl; scalars = refl }) h)
 
   within_ends : (site : Site) (place : Place) {test : Progress → Outcome Progress Bool} {body : Progress → Outcome Progress (Unit {0})}
-      → Ends (FitsAt site) Any (FitsAt site) test → Ends (FitsAt site) Nothing (FitsAt site) body
-      → (bound : ℕ) → Ends (FitsAt site) Nothing (FitsAt site) (loop_within program_turns (in_program (trap Spent place)) test body bound)
-  within_ends site place t e zero = ends_then t (λ b any. ends_if b (spent_ends site place) (nothing_ends site))
+      → Ends (FitsAt site) Any (FitsAt site) test → Ends (FitsAt site) AnyUnit (FitsAt site) body
+      → (bound : ℕ) → Ends (FitsAt site) AnyUnit (FitsAt site) (loop_within program_turns (in_program (trap Spent place)) test body bound)
+  within_ends site place t e zero = ends_then t (λ b any. ends_if b (spent_ends site place) (skip_ends site))
   within_ends site place t e (suc n) =
-      ends_then t (λ b any. ends_if b (ends_then (turn_ends site place e) (λ done any. within_ends site place t e n)) (nothing_ends site))
+      ends_then t (λ b any. ends_if b (ends_then (turn_ends site place e) (λ done any. within_ends site place t e n)) (skip_ends site))
 
   loop_ends : (site : Site) (place : Place) {test : Progress → Outcome Progress Bool} {body : Progress → Outcome Progress (Unit {0})}
-      → Ends (FitsAt site) Any (FitsAt site) test → Ends (FitsAt site) Nothing (FitsAt site) body
-      → Ends (FitsAt site) Nothing (FitsAt site) (loop program_turns (in_program (trap Spent place)) test body)
+      → Ends (FitsAt site) Any (FitsAt site) test → Ends (FitsAt site) AnyUnit (FitsAt site) body
+      → Ends (FitsAt site) AnyUnit (FitsAt site) (loop program_turns (in_program (trap Spent place)) test body)
   loop_ends site place t e = record { ends = λ p h. (within_ends site place t e p.state.turns).ends p h }
 
   module _ (turns : ℕ) (is_mesh : IsMesh (length mesh.points) (corner_lists mesh)) where
     -- COMPREHENSIONS
     iteration_comes : (c : Comprehension) → ComprehensionFits c → (id : ℕ) → id < count mesh c.over
-        → Ends (StateFits mesh c.environment) Nothing (StateFits mesh c.environment) (after_iteration mesh c turns id)
+        → Ends (StateFits mesh c.environment) AnyUnit (StateFits mesh c.environment) (after_iteration mesh c turns id)
     iteration_comes c fits id l = record {
       ends = λ s h. go (record (iteration mesh c turns s id).after.state { turns = s.turns }) (iteration mesh c turns s id).answer
           (iteration_ends mesh c turns s id is_mesh fits h l) (still_fits (record { fields = refl; scalars = refl }) (iteration_fits mesh c turns s id h));
     } where
-      go : (after : State) (answer : Result (Unit {0}) Stop) → is_some (end_of answer) ≡ true → StateFits mesh c.environment after → EndsIn Nothing (StateFits mesh c.environment) after answer
+      go : (after : State) (answer : Result (Unit {0}) Stop) → is_some (end_of answer) ≡ true → StateFits mesh c.environment after → EndsIn AnyUnit (StateFits mesh c.environment) after answer
       go after (Ok done) e h = (tt, h)
       go after (Err (Trapped trap)) e h = tt
       go after (Err NoMeaning) e h = absurd cc
 
-    each_comes : (c : Comprehension) → ComprehensionFits c → (ids : List ℕ) → ((id : ℕ) → Member id ids → id < count mesh c.over)
-        → Ends (StateFits mesh c.environment) Nothing (StateFits mesh c.environment) (for_each (after_iteration mesh c turns) ids)
-    each_comes c fits [] below = record { ends = λ s h. (tt, h) }
-    each_comes c fits (id ∷ ids) below =
-        ends_then (iteration_comes c fits id (below id (inl refl))) (λ done any. each_comes c fits ids (λ v m. below v (inr m)))
+    for_each_ends : (c : Comprehension) → ComprehensionFits c → (ids : List ℕ) → ((id : ℕ) → Member id ids → id < count mesh c.over)
+        → Ends (StateFits mesh c.environment) AnyUnit (StateFits mesh c.environment) (for_each (after_iteration mesh c turns) ids)
+    for_each_ends c fits [] below = record { ends = λ s h. (tt, h) }
+    for_each_ends c fits (id ∷ ids) below =
+        ends_then (iteration_comes c fits id (below id (inl refl))) (λ done any. for_each_ends c fits ids (λ v m. below v (inr m)))
 
     over_ends : (site : Site) (c : Comprehension) → c.environment ≡ site.environment → ComprehensionFits c
-        → Ends (FitsAt site) Nothing (FitsAt site) (lift_state (all_or_nothing (comprehension mesh c turns)))
+        → Ends (FitsAt site) AnyUnit (FitsAt site) (lift_state (all_or_nothing (comprehension mesh c turns)))
     over_ends site c same fits = record {
       ends = λ p h. go p (comprehension mesh c turns p.state).after (comprehension mesh c turns p.state).answer
-          ((each_comes c fits (numbers 0 (count mesh c.over)) (range_below (count mesh c.over))).ends p.state (subst (λ environment. StateFits mesh environment p.state) (sym same) h));
+          ((for_each_ends c fits (numbers 0 (count mesh c.over)) (range_below (count mesh c.over))).ends p.state (subst (λ environment. StateFits mesh environment p.state) (sym same) h));
     } where
-      go : (p : Progress) (after : State) (answer : Result (Unit {0}) Stop) → EndsIn Nothing (StateFits mesh c.environment) after answer
-          → EndsIn Nothing (FitsAt site) (record p { state = (restored_outcome p.state after answer).after }) (restored_outcome p.state after answer).answer
+      go : (p : Progress) (after : State) (answer : Result (Unit {0}) Stop) → EndsIn AnyUnit (StateFits mesh c.environment) after answer
+          → EndsIn AnyUnit (FitsAt site) (record p { state = (restored_outcome p.state after answer).after }) (restored_outcome p.state after answer).answer
       go p after (Ok done) e = (tt, subst (λ environment. StateFits mesh environment after) same e.1)
       go p after (Err (Trapped trap)) e = tt
       go p after (Err NoMeaning) e = e
 
     -- ITEMS
     mutual
-      item_ends : {site : Site} {i : MainItem} → ItemFits site i → IsFresh site → Ends (FitsAt site) Nothing (FitsAt (after_item site i)) (item_meaning mesh turns site i)
+      item_ends : {site : Site} {i : MainItem} → ItemFits site i → IsFresh site → Ends (FitsAt site) AnyUnit (FitsAt (after_item site i)) (item_meaning mesh turns site i)
       item_ends {site = site} (FitsMainField place name at kind h is) fresh =
-          ends_then (number_at_ends site h) (λ n any. ends_then (declared_ends site name kind n fresh) (λ done any. meets_ends (field_site name kind site) (FieldDeclared (next_field site) n)))
+          ends_then (number_at_ends site h) (λ n any. ends_then (declared_ends site name kind n fresh) (λ done any. log_event_ends (field_site name kind site) (FieldDeclared (next_field site) n)))
       item_ends {site = site} (FitsMainVar place name at h is) fresh = ends_then (number_at_ends site h) (λ n any. variable_ends site name n fresh)
       item_ends {site = site} (FitsMainAssign {number = number} place name how is h) fresh = ends_then (number_at_ends site h) (λ n any. name_ends site name how n number is)
       item_ends {site = site} (FitsMainIf {test = test} {first = first} {second = second} place has_else h f g) fresh =
@@ -351,15 +351,15 @@ module _ (mesh : MeshLists) where
           (scope_ends site (block_start site) (next_scope site) refl (main_keeps grows_kept mesh turns (block_start site) first) (main_ends f (block_fresh site fresh)))
           (ends_if (has_else_block second has_else)
           (scope_ends site (block_start (after_block site (after_main (block_start site) first))) (next_scope (after_block site (after_main (block_start site) first))) refl (main_keeps grows_kept mesh turns _ second) (main_ends g (first_fresh site first fresh)))
-          (nothing_ends site))))
+          (skip_ends site))))
       item_ends {site = site} (FitsMainWhile {body = body} place h f) fresh =
           loop_ends site place (truth_at_ends site h)
           (scope_ends site (block_start site) (next_scope site) refl (main_keeps grows_kept mesh turns (block_start site) body) (main_ends f (block_fresh site fresh)))
       item_ends {site = site} (FitsMainFor {body = body} place name at over is h) fresh =
-          ends_then (meets_ends site (ComprehensionReached (next_comprehension site))) (λ done any. over_ends site (comprehension_at site name over body) refl h)
-      item_ends {site = site} (FitsPrint place h) fresh = ends_then (number_at_ends site h) (λ n any. printed_ends site place n)
+          ends_then (log_event_ends site (ComprehensionReached (next_comprehension site))) (λ done any. over_ends site (comprehension_at site name over body) refl h)
+      item_ends {site = site} (FitsPrint place h) fresh = ends_then (number_at_ends site h) (λ n any. print_number_ends site place n)
 
-      main_ends : {site : Site} {program : Main} → MainFits site program → IsFresh site → Ends (FitsAt site) Nothing Any (main_meaning mesh turns site program)
+      main_ends : {site : Site} {program : Main} → MainFits site program → IsFresh site → Ends (FitsAt site) AnyUnit Any (main_meaning mesh turns site program)
       main_ends (FitsNoItem site) fresh = record { ends = λ p h. (tt, tt) }
       main_ends {site = site} (FitsItems {i = i} f g) fresh = ends_then (item_ends f fresh) (λ done any. main_ends g (fresh_after site i f fresh))
 
@@ -374,4 +374,4 @@ module _ (mesh : MeshLists) where
     pub run_ends : (program : Main) → IsTyped program → is_some (run_end mesh program turns) ≡ true
     run_ends program typed =
         is_an_end Any (run mesh program turns).after (run mesh program turns).answer
-        ((ends_then (meets_ends start (ScopeOpened 0)) (λ done any. main_ends typed start_fresh)).ends (record { state = empty turns; path = [] }) start_fits)
+        ((ends_then (log_event_ends start (ScopeOpened 0)) (λ done any. main_ends typed start_fresh)).ends (record { state = empty turns; path = [] }) start_fits)

@@ -1,4 +1,4 @@
--- The edges of a face go along its cycle, whichever way that is turned.
+-- The edges of a face go along its cycle, reversed or not.
 use Rattle.std.proofs.Common.{◌≡◌, ℕ, ◌<◌, nat_lt, Bool, true, false, List, [], ◌∷◌, map, length, refl, subst, inl, inr, arith, sym, ap, ◌∙◌, ◌==◌, reverse, get_or, lt-ltb, eqb-true, eq-eqb}
 use Rattle.std.proofs.lemmas.Bool.{and_parts, false_from_ne_true}
 use Rattle.std.proofs.Common.{ltb-true, ltb-false}
@@ -10,7 +10,7 @@ use Rattle.liszt_base.specs.declared.elements.Kind.TheVariants.{Edge, Face}
 use Rattle.liszt_base.specs.declared.elements.SetName.TheVariants.{EdgesCcw}
 use Rattle.mesh_topology.specs.Elements.{corner_lists, count, corners, steps, rotation_from, face_cycle}
 use Rattle.mesh_topology.proofs.MemberLemmas.{Member, included}
-use Rattle.mesh_topology.proofs.RankLemmas.{found_again}
+use Rattle.mesh_topology.proofs.RankLemmas.{id_of_corners_is}
 use Rattle.mesh_topology.proofs.SideLemmas.{face_is}
 use Rattle.mesh_topology.proofs.CycleLemmas.{same_by, cycle_of_face}
 use Rattle.mesh_topology.proofs.FaceEdgeLemmas.{edge_of_face, GoesThrough, all_different, through, both_through}
@@ -20,7 +20,7 @@ use Rattle.topo_operators.specs.Operators.{reversed, cycle_of, edge_along, membe
 abbrev oriented : ℕ → Bool → Elem
 oriented id flipped = record { kind = Edge; id = id; flipped = flipped }
 
--- the ends of an edge, both ways
+-- the ends of an edge in both orientations
 unflipped_along : (mesh : MeshLists) (id a b : ℕ) → id < count mesh Edge → corners mesh Edge id ≡ a ∷ b ∷ [] → GoesAlong mesh (a, b) (oriented id false)
 unflipped_along mesh id a b l is = record { is_edge = refl; in_range = l; from = rw is refl; to = rw is refl }
 
@@ -36,18 +36,18 @@ pair_swapped a b = same_by (a ∷ b ∷ []) (b ∷ a ∷ []) (swap a b) (swap b 
   swap : (y z x : ℕ) → Member x (y ∷ z ∷ []) → Member x (z ∷ y ∷ [])
   swap y z x m = grind arith
 
--- three equal pairs make equal lists
+-- lists of three equal members are equal
 three_equal : {x x' y y' z z' : Elem} → x ≡ x' → y ≡ y' → z ≡ z' → x ∷ y ∷ z ∷ [] ≡ x' ∷ y' ∷ z' ∷ []
 three_equal p q r = rw (p, q, r) refl
 
--- the edge of a step is found
+-- the edge of a step is the one with its ends
 edge_is : (mesh : MeshLists) (a b id : ℕ) (flipped : Bool) → nat_lt b a ≡ flipped → id < count mesh Edge
     → same_members (a ∷ b ∷ []) (corners mesh Edge id) ≡ true → oriented id flipped ≡ edge_along mesh (a, b)
 edge_is mesh a b id flipped way l same =
-    let id_is = found_again mesh Edge 2 refl id (a ∷ b ∷ []) l same in
+    let id_is = id_of_corners_is mesh Edge 2 refl id (a ∷ b ∷ []) l same in
     rw (id_is, way) refl
 
--- two different corners of a face
+-- the edge between two different corners of a face
 step_along : (mesh : MeshLists) (face : ℕ) → face < count mesh Face → (a b : ℕ) (falls : Bool) → nat_lt b a ≡ falls → (a ≡ b → ⊥)
     → Member a (corners mesh Face face) → Member b (corners mesh Face face) → GoesAlong mesh (a, b) (edge_along mesh (a, b))
 step_along mesh face l a b false way apart ma mb =
@@ -60,7 +60,7 @@ step_along mesh face l a b true way apart ma mb =
     let same : same_members (a ∷ b ∷ []) (corners mesh Edge e.id) ≡ true = rw e.is (pair_swapped a b) in
     subst (λ x. GoesAlong mesh (a, b) x) (edge_is mesh a b e.id true way e.below same) (flipped_along mesh e.id a b e.below e.is)
 
--- the corners that a cycle goes through
+-- the corners of a cycle
 three_inside : (t : List ℕ) (a b c : ℕ) → GoesThrough t (a ∷ b ∷ c ∷ []) → Member a t × Member b t × Member c t
 three_inside t a b c h = (at a (inl refl), at b (inr (inl refl)), at c (inr (inr (inl refl)))) where
   at : (x : ℕ) → Member x (a ∷ b ∷ c ∷ []) → Member x t
@@ -70,7 +70,7 @@ three_inside t a b c h = (at a (inl refl), at b (inr (inl refl)), at c (inr (inr
 abbrev edges : MeshLists → List ℕ → List Elem
 edges mesh cycle = map (edge_along mesh) (steps cycle)
 
--- each goes along its step, and there are three
+-- there are three edges, each along its step
 cycle_along : (mesh : MeshLists) (face : ℕ) → face < count mesh Face → (cycle : List ℕ) → GoesThrough (corners mesh Face face) cycle
     → (length (edges mesh cycle) ≡ 3) × AllByRecursion (λ p. GoesAlong mesh p.0 p.1) (zip (steps cycle) (edges mesh cycle))
 cycle_along mesh face l (a ∷ b ∷ c ∷ []) h =
@@ -91,7 +91,7 @@ pub face_along : (mesh : MeshLists) → IsMesh (length mesh.points) (corner_list
     → (length (members mesh EdgesCcw face) ≡ 3) × AllByRecursion (λ p. GoesAlong mesh p.0 p.1) (zip (steps (cycle_of mesh face)) (members mesh EdgesCcw face))
 face_along mesh is face l = cycle_along mesh face.id l (cycle_of mesh face) (both_through mesh is face.id l face.flipped)
 
--- the edge of a step back is that of the step, turned
+-- the edge of a reversed step is that of the step, reversed
 reversed_edge_along : (mesh : MeshLists) (face : ℕ) → face < count mesh Face → (a b : ℕ) (falls : Bool) → nat_lt b a ≡ falls → (a ≡ b → ⊥)
     → Member a (corners mesh Face face) → Member b (corners mesh Face face) → edge_along mesh (b, a) ≡ reversed (edge_along mesh (a, b))
 reversed_edge_along mesh face l a b false way apart ma mb =
@@ -108,14 +108,14 @@ reversed_edge_along mesh face l a b true way apart ma mb =
     let up : nat_lt a b ≡ false = false_from_ne_true (nat_lt a b) (λ h. let k = ltb-true a b h in omega arith) in
     sym (edge_is mesh b a e.id false up e.below two) ∙ ap reversed (edge_is mesh a b e.id true way e.below one)
 
--- a cycle turned round goes through it the other way
+-- a reversed cycle, from the same first corner
 reversed_steps : (a b c : ℕ) → (a ≡ b → ⊥) → (c ≡ a → ⊥) → rotation_from a (reverse (a ∷ b ∷ c ∷ [])) ≡ a ∷ c ∷ b ∷ []
 reversed_steps a b c ab ca =
     let first : (c == a) ≡ false = false_from_ne_true (c == a) (λ h. ca (eqb-true c a h)) in
     let second : (b == a) ≡ false = false_from_ne_true (b == a) (λ h. ab (sym (eqb-true b a h))) in
     rw (first, second, eq-eqb a a refl) refl
 
--- the edges of a cycle turned round, and of the cycle, are the other's from the last to the first, each turned
+-- the edges of a cycle and of the reversed cycle are each other's in reverse order, each reversed
 two_ways : (mesh : MeshLists) (face : ℕ) → face < count mesh Face → (cycle : List ℕ) (first : ℕ) → get_or cycle 0 0 ≡ first
     → GoesThrough (corners mesh Face face) cycle
     → (edges mesh (rotation_from first (reverse cycle)) ≡ map reversed (reverse (edges mesh cycle)))

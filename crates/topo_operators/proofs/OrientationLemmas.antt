@@ -8,7 +8,7 @@ use Rattle.liszt_base.specs.declared.elements.Kind.{Kind}
 use Rattle.liszt_base.specs.declared.elements.Kind.TheVariants.{Vertex, Edge, Face, Cell}
 use Rattle.mesh_topology.specs.Elements.{count, corners, is_incident, sides}
 use Rattle.mesh_topology.proofs.CombinationLemmas.{IsAscending}
-use Rattle.mesh_topology.proofs.NearLemmas.{kept_is, rising_is}
+use Rattle.mesh_topology.proofs.NearLemmas.{filter_is, corner_set_is}
 use Rattle.topo_operators.specs.Operands.{IsElement}
 use Rattle.topo_operators.specs.Operators.{unflipped, reversed, is_kind, tail, head, inside, outside, flip, same, points_to, towards, vertex_at, cell_at}
 use Rattle.topo_operators.proofs.TowardsLemmas.{is_kind_itself}
@@ -23,7 +23,7 @@ same_flip_second x None = refl
 same_flip_second None (Some y) = refl
 same_flip_second (Some x) (Some y) = refl
 
--- kinds that the test takes as equal are equal
+-- kinds that pass the test are equal
 kind_equal : (k m : Kind) → is_kind k m ≡ true → k ≡ m
 kind_equal Vertex Vertex e = refl
 kind_equal Edge Edge e = refl
@@ -107,7 +107,7 @@ unflipped_towards mesh kind id flipped p to is e =
     let first : same (points_to mesh (unflipped kind id)) (Some to) ≡ true = ap (λ z. same z (Some to)) is ∙ e in
     rw first refl
 
--- and else the flipped one if that does
+-- and else the flipped element if that does
 flipped_towards : (mesh : MeshLists) (kind : Kind) (id : ℕ) (flipped : Bool) (p : Option Elem) (q to : Elem) → points_to mesh (unflipped kind id) ≡ p
     → points_to mesh (reversed (unflipped kind id)) ≡ Some q → same p (Some to) ≡ false → same (Some q) (Some to) ≡ true
     → towards mesh (Some (oriented kind id flipped)) (Some to) ≡ Some (oriented kind id true)
@@ -163,7 +163,7 @@ edge_ends mesh id flipped (a ∷ b ∷ c ∷ ends) is two up = absurd (omega ari
 pub edge_towards : (mesh : MeshLists) (x : Elem) → IsElement mesh Edge x → OwnEnds mesh x
 edge_towards mesh x is = go x.kind is.0 where
   go : (kind : Kind) → kind ≡ Edge → OwnEnds mesh (oriented kind x.id x.flipped)
-  go Edge e = let r = rising_is mesh Edge 2 refl x.id is.1 in edge_ends mesh x.id x.flipped (corners mesh Edge x.id) refl r.size_is r.ascending
+  go Edge e = let r = corner_set_is mesh Edge 2 refl x.id is.1 in edge_ends mesh x.id x.flipped (corners mesh Edge x.id) refl r.size_is r.ascending
   go Vertex e = cc
   go Face e = cc
   go Cell e = cc
@@ -236,7 +236,7 @@ face_sides mesh id flipped (a ∷ b ∷ cells) is up = go flipped where
 pub face_towards : (mesh : MeshLists) (x : Elem) → IsElement mesh Face x → OwnSides mesh x
 face_towards mesh x is = go x.kind is.0 where
   go : (kind : Kind) → kind ≡ Face → OwnSides mesh (oriented kind x.id x.flipped)
-  go Face e = face_sides mesh x.id x.flipped (sides mesh x.id) refl (kept_is (is_incident mesh Face x.id Cell) (count mesh Cell)).ascending
+  go Face e = face_sides mesh x.id x.flipped (sides mesh x.id) refl (filter_is (is_incident mesh Face x.id Cell) (count mesh Cell)).ascending
   go Vertex e = cc
   go Edge e = cc
   go Cell e = cc

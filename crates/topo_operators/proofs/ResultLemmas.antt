@@ -1,4 +1,4 @@
--- What operators and sets give is of the mesh.
+-- The results of operators and the members of sets are of the mesh.
 use Rattle.std.proofs.Common.{◌≡◌, ℕ, zero, suc, ◌<◌, true, Option, Some, None, List, [], ◌∷◌, map, length, slice_get, refl, inl, inr, arith}
 use Rattle.std.specs.List.{zip, AllByRecursion}
 use Rattle.std.specs.Option.{option_and_then, option_map}
@@ -12,7 +12,7 @@ use Rattle.liszt_base.specs.declared.elements.SetName.{SetName}
 use Rattle.liszt_base.specs.declared.elements.SetName.TheVariants.{Vertices, Edges, Faces, Cells, EdgesCcw}
 use Rattle.mesh_topology.specs.Elements.{corner_lists, count, corners, is_incident, near, steps}
 use Rattle.mesh_topology.proofs.MemberLemmas.{Member}
-use Rattle.mesh_topology.proofs.NearLemmas.{kept_is, rising_is, vertex_count}
+use Rattle.mesh_topology.proofs.NearLemmas.{filter_is, corner_set_is, vertex_count}
 use Rattle.topo_operators.specs.Operands.{IsElement, IsNilOrElement, IsSetOperand}
 use Rattle.topo_operators.specs.Operators.{unflipped, vertex_at, cell_at, cycle_of, edge_along, members, GoesAlong}
 use Rattle.topo_operators.proofs.EdgeAlongLemmas.{face_along}
@@ -22,12 +22,12 @@ abbrev AreIds : MeshLists → Kind → List ℕ → Type 0
 AreIds mesh kind ids = (id : ℕ) → Member id ids → id < count mesh kind
 
 near_ids : (mesh : MeshLists) (kind : Kind) (id : ℕ) (out : Kind) → AreIds mesh out (near mesh kind id out)
-near_ids mesh kind id out v m = ((kept_is (is_incident mesh kind id out) (count mesh out)).inside v m).0
+near_ids mesh kind id out v m = ((filter_is (is_incident mesh kind id out) (count mesh out)).inside v m).0
 
 end_ids : (mesh : MeshLists) (edge : ℕ) → edge < count mesh Edge → AreIds mesh Vertex (corners mesh Edge edge)
-end_ids mesh edge l v m = omega (arith, vertex_count mesh, (rising_is mesh Edge 2 refl edge l).below v m)
+end_ids mesh edge l v m = omega (arith, vertex_count mesh, (corner_set_is mesh Edge 2 refl edge l).below v m)
 
--- the element at a place, or nil
+-- the element at an index, or nil
 nil_or_nth : (mesh : MeshLists) (kind : Kind) (ids : List ℕ) (place : ℕ) → AreIds mesh kind ids → IsNilOrElement mesh kind (option_map (unflipped kind) (slice_get ids place))
 nil_or_nth mesh kind [] place are = tt
 nil_or_nth mesh kind (id ∷ ids) zero are = (refl, are id (inl refl))
@@ -38,7 +38,7 @@ all_elements : (mesh : MeshLists) (kind : Kind) (ids : List ℕ) → AreIds mesh
 all_elements mesh kind [] are = tt
 all_elements mesh kind (id ∷ ids) are = ((refl, are id (inl refl)), all_elements mesh kind ids (λ v m. are v (inr m)))
 
--- an operator gives nil of nil
+-- an operator of nil is nil
 pub nil_or_result : (mesh : MeshLists) (kind out : Kind) (of : Elem → Option Elem) → ((x : Elem) → IsElement mesh kind x → IsNilOrElement mesh out (of x))
     → (x : Option Elem) → IsNilOrElement mesh kind x → IsNilOrElement mesh out (option_and_then of x)
 nil_or_result mesh kind out of each None is = tt
@@ -56,7 +56,7 @@ along_edges : (mesh : MeshLists) (each : List (ℕ × ℕ)) → AllByRecursion (
 along_edges mesh [] go = tt
 along_edges mesh (step ∷ each) go = ((go.0.is_edge, go.0.in_range), along_edges mesh each go.1)
 
--- faces alone have edges along a cycle
+-- only faces have edges along a cycle
 is_face : (mesh : MeshLists) (kind : Kind) (id : ℕ) → id < count mesh kind → has_set kind EdgesCcw ≡ true → id < count mesh Face
 is_face mesh Face id l has = l
 is_face mesh Vertex id l has = cc

@@ -1,4 +1,4 @@
--- Of a flipped face the inside is the outside of the face.
+-- The inside of a flipped face is the outside of the face.
 use Rattle.std.proofs.Common.{◌≡◌, Bool, true, false, Option, Some, None, refl}
 use Rattle.liszt_base.specs.MeshLists.{MeshLists}
 use Rattle.liszt_base.specs.declared.elements.Elem.{Elem}

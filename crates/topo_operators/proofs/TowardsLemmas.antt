@@ -1,4 +1,4 @@
--- What a search among two orientations finds.
+-- The orientation that `towards` gives.
 use Rattle.std.proofs.Common.{◌≡◌, ◌==◌, ◌&&◌, ◌⊎◌, Bool, true, false, cond, Option, Some, None, [], ◌∷◌, refl, sym, subst, inl, inr, eq-eqb}
 use Rattle.std.specs.List.{find}
 use Rattle.liszt_base.specs.MeshLists.{MeshLists}
@@ -13,7 +13,7 @@ is_kind_itself Edge = refl
 is_kind_itself Face = refl
 is_kind_itself Cell = refl
 
--- what is found passes the test, and is one of the two
+-- the result of `find` passes the test and is one of the two
 find_of_two : {A : Type 0} (test : A → Bool) (a b y : A) → find test (a ∷ b ∷ []) ≡ Some y → (test y ≡ true) × ((y ≡ a) ⊎ (y ≡ b))
 find_of_two test a b y e = go (test a) (test b) refl refl e where
   go : (ta tb : Bool) → test a ≡ ta → test b ≡ tb → cond {A = Option _} ta (Some a) (cond tb (Some b) None) ≡ Some y → (test y ≡ true) × ((y ≡ a) ⊎ (y ≡ b))

@@ -35,7 +35,7 @@ pub fn orientation_is_ignored()
         → members mesh set (reversed x) ≡ members mesh set x }
 {}
 
-/// Sameness ignores orientation: elements are the same if they are equal up to a flip, and nil is the same as nil alone.
+/// Sameness ignores orientation: elements are the same if they are equal up to a flip, and nil is the same as nil and as no element.
 pub fn same_is_equality_up_to_flip()
     ensures first { (x y : Option ElemOf) → same (flip x) y ≡ same x y }
     ensures second { (x y : Option ElemOf) → same x (flip y) ≡ same x y }

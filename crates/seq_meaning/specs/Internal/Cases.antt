@@ -291,14 +291,14 @@ first_state mesh program = unwrap_or (option_map (λ phase. phase.1) (slice_get 
 abbrev pub an_act : ℕ → ℕ → Mode → ℤ → Act
 an_act field id mode value = record { spot = record { field = field; id = id }; mode = mode; value = value }
 
--- blocks behind `if`: none is written, an empty one is written, and a true test
+-- `if` without `else`, with an empty block after `else`, and with a true test
 abbrev pub scopes_of_branches : Main
 scopes_of_branches =
-    item (MainIf nowhere (below_zero 1) no_item no_item false) (item (MainIf nowhere (below_zero 1) no_item no_item true)
-    (only (MainIf nowhere (below_zero 0) no_item no_item false)))
+    item (MainIf nowhere (equals_zero 1) no_item no_item false) (item (MainIf nowhere (equals_zero 1) no_item no_item true)
+    (only (MainIf nowhere (equals_zero 0) no_item no_item false)))
   where
-    below_zero : ℕ → Expression
-    below_zero n = Compare nowhere Equal (number n) (number 0)
+    equals_zero : ℕ → Expression
+    equals_zero n = Compare nowhere Equal (number n) (number 0)
 
 -- a run that has printed `n` numbers
 abbrev pub with_prints : ℕ → Progress

@@ -1,6 +1,6 @@
 use Rattle.std.proofs.Common.{◌+◌, ◌∷◌, ◌++◌, [], length, get_or, take, refl, sym, ap, subst, arith}
 use Rattle.mesh_topology.specs.Internal.Incidence.{AreChangedAt}
-use Rattle.mesh_topology.proofs.TransposeLemmas.{changed_more, unchanged}
+use Rattle.mesh_topology.proofs.TransposeLemmas.{changed_step, unchanged}
 use Rattle.mesh_topology.proofs.incidence.append_to_rows.Goals as goal
 
 pub push-requires : goal.push-requires
@@ -18,5 +18,5 @@ loop-y-preserved g c =
     let mid = c.loop-y.rows in
     let y = get_or list c.loop-y.y-index 0 in
     let below = c.requires.below c.loop-y.y-index 0 c.loop-y-test.true in
-    let more = changed_more [] (λ row. row ++ c.args.id ∷ []) list c.loop-y.y-index old mid (get_or mid y [] ++ c.args.id ∷ []) c.loop-y-test.true c.requires.ascending below c.loop-y.invariant refl in
+    let more = changed_step [] (λ row. row ++ c.args.id ∷ []) list c.loop-y.y-index old mid (get_or mid y [] ++ c.args.id ∷ []) c.loop-y-test.true c.requires.ascending below c.loop-y.invariant refl in
     subst (λ rows. AreChangedAt [] (λ row. row ++ c.args.id ∷ []) (take (c.loop-y.y-index + 1) list) old rows) (sym c.push.ensures) more

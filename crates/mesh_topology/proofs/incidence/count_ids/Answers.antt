@@ -1,5 +1,5 @@
 use Rattle.std.proofs.Common.{◌+◌, ◌<◌, ◌^◌, get_or, refl, arith, rules}
-use Rattle.mesh_topology.proofs.TransposeLemmas.{changed_more, unchanged}
+use Rattle.mesh_topology.proofs.TransposeLemmas.{changed_step, unchanged}
 use Rattle.mesh_topology.proofs.incidence.count_ids.Goals as goal
 
 pub overflow_add-degrees : goal.overflow_add-degrees
@@ -16,4 +16,4 @@ pub loop-y-preserved : goal.loop-y-preserved
 loop-y-preserved c =
     let row = c.args.row.now in
     let below = c.requires.below c.loop-y.y-index 0 c.loop-y-test.true in
-    changed_more 0 (λ n. n + 1) row c.loop-y.y-index c.args.degrees.now c.loop-y.degrees (get_or c.loop-y.degrees (get_or row c.loop-y.y-index 0) 0 + 1) c.loop-y-test.true c.requires.ascending below c.loop-y.invariant refl
+    changed_step 0 (λ n. n + 1) row c.loop-y.y-index c.args.degrees.now c.loop-y.degrees (get_or c.loop-y.degrees (get_or row c.loop-y.y-index 0) 0 + 1) c.loop-y-test.true c.requires.ascending below c.loop-y.invariant refl

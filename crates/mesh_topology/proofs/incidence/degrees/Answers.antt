@@ -2,7 +2,7 @@ use Rattle.std.proofs.Common.{◌≡◌, ◌+◌, ◌<◌, ◌^◌, All, length,
 use Rattle.std.proofs.Math.Seq.{take-append_seam}
 use Rattle.std.proofs.lemmas.List.{get_or_read}
 use Rattle.mesh_topology.specs.Internal.Incidence.{AreDegreesSoFar, AreChangedAt}
-use Rattle.mesh_topology.proofs.TransposeLemmas.{degrees_more, degrees_all, few_degrees}
+use Rattle.mesh_topology.proofs.TransposeLemmas.{degrees_step, degrees_all, few_degrees}
 use Rattle.mesh_topology.proofs.incidence.degrees.Goals as goal
 
 pub count_ids-requires-clause-few : goal.count_ids-requires-clause-few
@@ -19,7 +19,7 @@ loop-row-preserved g c =
     let counted = subst (λ r. AreChangedAt 0 (λ n. n + 1) r old new) row (subst (λ xs. AreChangedAt 0 (λ n. n + 1) c.row-item.result xs new) c.deref_mut.ensures.value c.count_ids.ensures) in
     let length_is : c.loop-row.degrees.len ≡ length new = omega (arith, c.loop-row.degrees.ok.0, counted.length_is) in
     let same : take c.loop-row.degrees.len (new ++ drop (length new) old) ≡ new = ap (λ n. take n (new ++ drop (length new) old)) length_is ∙ take-append_seam new (drop (length new) old) in
-    let more = degrees_more rows c.args.count c.loop-row.row-index old new c.loop-row.invariant counted in
+    let more = degrees_step rows c.args.count c.loop-row.row-index old new c.loop-row.invariant counted in
     subst (λ xs. AreDegreesSoFar rows c.args.count (c.loop-row.row-index + 1) xs) (sym same) more
 
 pub returns : goal.returns

@@ -1,7 +1,7 @@
 use Rattle.std.proofs.Common.{◌<◌, ◌^◌, [], ap, replicate, All, ◌++◌, ◌∷◌, length, subst, sym, ◌∙◌, arith}
 use Rattle.std.proofs.lemmas.List.{get_or_read}
 use Rattle.mesh_topology.specs.Internal.Incidence.{AreChangedAt}
-use Rattle.mesh_topology.proofs.TransposeLemmas.{degrees_length, capacities_for, transposed_more, transposed_none, transposed_all}
+use Rattle.mesh_topology.proofs.TransposeLemmas.{degrees_length, capacities_for, transposed_step, transposed_none, transposed_all}
 use Rattle.mesh_topology.proofs.incidence.transpose.Goals as goal
 
 pub new-requires : goal.new-requires
@@ -32,7 +32,7 @@ loop-id-preserved g c =
     let new = c.append_to_lists.new.lists.lists in
     let row = get_or_read rows c.loop-id.id c.index-rows-id.result c.loop-id-test.true c.index-rows-id.is [] in
     let added = subst (λ r. AreChangedAt [] (λ list. list ++ c.loop-id.id ∷ []) r old new) row c.append_to_lists.ensures.lists in
-    (transposed_more rows c.args.count c.loop-id.id old new c.loop-id.invariant.0 added, c.append_to_lists.ensures.capacities ∙ c.loop-id.invariant.1)
+    (transposed_step rows c.args.count c.loop-id.id old new c.loop-id.invariant.0 added, c.append_to_lists.ensures.capacities ∙ c.loop-id.invariant.1)
 
 pub returns : goal.returns
 returns g c =

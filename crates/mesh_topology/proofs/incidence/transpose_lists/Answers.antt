@@ -1,7 +1,7 @@
 use Rattle.std.proofs.Common.{◌≡◌, ◌<◌, All, AllPairs, [], ◌∷◌, ◌++◌, length, subst, sym, arith}
 use Rattle.std.proofs.lemmas.Option.{get_or_from_slice_get}
 use Rattle.mesh_topology.specs.Internal.Incidence.{AreChangedAt}
-use Rattle.mesh_topology.proofs.TransposeLemmas.{rows_for, transposed_more, transposed_none, transposed_all}
+use Rattle.mesh_topology.proofs.TransposeLemmas.{rows_for, transposed_step, transposed_none, transposed_all}
 use Rattle.mesh_topology.proofs.incidence.transpose_lists.Goals as goal
 
 pub loop-id-init : goal.loop-id-init
@@ -25,7 +25,7 @@ loop-id-preserved g c =
     let old = c.loop-id.rows in
     let new = c.append_to_rows.new.rows in
     let added = subst (λ r. AreChangedAt [] (λ row. row ++ c.loop-id.id ∷ []) r old new) list c.append_to_rows.ensures in
-    transposed_more lists c.args.count c.loop-id.id old new c.loop-id.invariant added
+    transposed_step lists c.args.count c.loop-id.id old new c.loop-id.invariant added
 
 pub returns : goal.returns
 returns g c =

@@ -6,7 +6,7 @@ use Rattle.mesh_topology.specs.Internal.Incidence.{AreVertexCells}
 use Rattle.mesh_topology.specs.Elements.{count}
 use Rattle.mesh_topology.proofs.NearLemmas.{vertices_are}
 use Rattle.mesh_topology.proofs.LowerTableLemmas.{row_vertices}
-use Rattle.mesh_topology.proofs.UpperTableLemmas.{can_transpose, either_cell_vertex, transposed_near}
+use Rattle.mesh_topology.proofs.UpperTableLemmas.{can_transpose, cell_vertex_symmetric, transposed_near}
 use Rattle.mesh_topology.proofs.TableLemmas.{elements_are}
 use Rattle.mesh_topology.proofs.FirstCornerLemmas.{cells_of_vertices}
 use Rattle.mesh_topology.proofs.lower.build_corner_tables.Goals as goal
@@ -52,5 +52,5 @@ returns c =
       edges = elements_are mesh c.requires Edge 2 refl cells rows c.as_slice-2.result.now c.in_ok-edges.edges.items c.cells.ensures all c.as_slice-2.ensures.value c.in_ok-edges.ensures;
       faces = elements_are mesh c.requires Face 3 refl cells rows c.as_slice-3.result.now c.in_ok-faces.faces.items c.cells.ensures all c.as_slice-3.ensures.value c.in_ok-faces.ensures;
       cells = subst (λ cs. AllZip AreSortedCorners cs rows) c.cells.ensures all;
-      vertex_cells = c.in_ok-vertex_cells.ensures ∙ (c.in_ok-transposed.ensures ∙ transposed_near mesh Cell Vertex (either_cell_vertex mesh) c.as_slice.result.now (length c.points.result.now) near n);
+      vertex_cells = c.in_ok-vertex_cells.ensures ∙ (c.in_ok-transposed.ensures ∙ transposed_near mesh Cell Vertex (cell_vertex_symmetric mesh) c.as_slice.result.now (length c.points.result.now) near n);
     }

@@ -2,7 +2,7 @@ use Rattle.std.proofs.Common.{◌<◌, ◌++◌, [], All, length, get_or, map, f
 use Rattle.std.proofs.lemmas.Option.{get_or_from_slice_get}
 use Rattle.mesh_topology.specs.Internal.Combinations.{combinations}
 use Rattle.mesh_topology.specs.Internal.Incidence.{members_above, combinations_from, pair, IsSetOf}
-use Rattle.mesh_topology.proofs.FirstCornerLemmas.{combinations_from_are, cells_of, pairs_above, table_all, table_more}
+use Rattle.mesh_topology.proofs.FirstCornerLemmas.{combinations_from_are, cells_of, pairs_above, table_all, table_step}
 use Rattle.mesh_topology.proofs.tables.edges.Goals as goal
 
 pub set_corners_above-requires : goal.set_corners_above-requires
@@ -22,7 +22,7 @@ loop-v-preserved c =
     let above = c.set_corners_above.new.above.items in
     let one = pairs_above cells lists v above c.requires l (subst (λ ids. IsSetOf (members_above cells v ids) above) (sym e) c.in_ok-set_corners_above.ensures) in
     let is = c.in_ok-add_pairs.ensures ∙ ap (λ xs. c.loop-v.table.items ++ map (pair v) xs) c.as_slice.ensures.value in
-    table_more (flat_map (combinations 2) cells) (combinations_from 2 cells v (get_or lists v [])) c.loop-v.table.items (map (pair v) above) c.add_pairs.new.table.items v (combinations_from_are 2 cells lists v (omega arith) c.requires l) c.loop-v.invariant one is
+    table_step (flat_map (combinations 2) cells) (combinations_from 2 cells v (get_or lists v [])) c.loop-v.table.items (map (pair v) above) c.add_pairs.new.table.items v (combinations_from_are 2 cells lists v (omega arith) c.requires l) c.loop-v.invariant one is
 
 pub returns : goal.returns
 returns c =

@@ -1,6 +1,6 @@
 use Rattle.std.proofs.Common.{ℕ, List, [], Contains, subst, arith}
 use Rattle.mesh_topology.specs.Internal.Combinations.{combinations, AreRanks}
-use Rattle.mesh_topology.proofs.ListLemmas.{zip_more}
+use Rattle.mesh_topology.proofs.ListLemmas.{zip_step}
 use Rattle.mesh_topology.proofs.tables.face_edges.Goals as goal
 
 pub ranks-requires : goal.ranks-requires
@@ -15,4 +15,4 @@ loop-corners-preserved c =
     let at = c.loop-corners.corners-index in
     let one = subst (λ sets. AreRanks table sets c.ranks.result) c.pairs_of_three.ensures c.ranks.ensures in
     rw c.in_ok-push.ensures.items
-    (zip_more (λ corners ids. AreRanks table (combinations 2 corners) ids) c.args.faces.now c.loop-corners.rows.items at [] c.ranks.result c.loop-corners-test.true c.loop-corners.invariant one)
+    (zip_step (λ corners ids. AreRanks table (combinations 2 corners) ids) c.args.faces.now c.loop-corners.rows.items at [] c.ranks.result c.loop-corners-test.true c.loop-corners.invariant one)

@@ -2,7 +2,7 @@ use Rattle.std.proofs.Common.{◌<◌, ◌++◌, [], All, length, get_or, map, f
 use Rattle.std.proofs.lemmas.Option.{get_or_from_slice_get}
 use Rattle.mesh_topology.specs.Internal.Combinations.{combinations}
 use Rattle.mesh_topology.specs.Internal.Incidence.{combinations_from, keys_in, triple, IsSetOf}
-use Rattle.mesh_topology.proofs.FirstCornerLemmas.{combinations_from_are, cells_of, table_all, table_more, triples_of_keys}
+use Rattle.mesh_topology.proofs.FirstCornerLemmas.{combinations_from_are, cells_of, table_all, table_step, triples_of_keys}
 use Rattle.mesh_topology.proofs.tables.faces.Goals as goal
 
 pub set_keys-requires : goal.set_keys-requires
@@ -22,7 +22,7 @@ loop-v-preserved c =
     let keys = c.set_keys.new.keys.items in
     let one = triples_of_keys cells lists v keys c.requires l (subst (λ ids. IsSetOf (keys_in cells v ids) keys) (sym e) c.in_ok-set_keys.ensures) in
     let is = c.in_ok-add_triples.ensures ∙ ap (λ xs. c.loop-v.table.items ++ map (triple v) xs) c.as_slice.ensures.value in
-    table_more (flat_map (combinations 3) cells) (combinations_from 3 cells v (get_or lists v [])) c.loop-v.table.items (map (triple v) keys) c.add_triples.new.table.items v (combinations_from_are 3 cells lists v (omega arith) c.requires l) c.loop-v.invariant one is
+    table_step (flat_map (combinations 3) cells) (combinations_from 3 cells v (get_or lists v [])) c.loop-v.table.items (map (triple v) keys) c.add_triples.new.table.items v (combinations_from_are 3 cells lists v (omega arith) c.requires l) c.loop-v.invariant one is
 
 pub returns : goal.returns
 returns c =

@@ -1,7 +1,7 @@
 use Rattle.std.proofs.Common.{◌<◌, ◌≤◌, ◌∷◌, ◌++◌, [], ap, length, ◌∙◌, arith, rules}
 use Rattle.std.specs.List.{between}
 use Rattle.std.proofs.lemmas.Grind.{get_or_default_zero}
-use Rattle.mesh_topology.proofs.BucketLemmas.{list_more, list_all, part_inside}
+use Rattle.mesh_topology.proofs.BucketLemmas.{list_step, list_all, part_inside}
 use Rattle.mesh_topology.proofs.buckets.Buckets.lists.Goals as goal
 
 pub slice_bounds-push-count : goal.slice_bounds-push-count
@@ -42,7 +42,7 @@ loop-i-preserved c =
     let m : c.loop-i.i < length b.starts.items = omega (arith, c.self.invariant.length_is) in
     let f = c.index.ensures ∙ get_or_default_zero b.starts.items c.loop-i.i c.index.result.now m in
     let e = c.index-in-loop-i.ensures ∙ get_or_default_zero b.ends.items c.loop-i.i c.index-in-loop-i.result.now l in
-    list_more c.args.self.now b.starts.items b.ends.items b.items.items c.loop-i.i c.index.result.now c.index-in-loop-i.result.now c.loop-i.lists c.push.new.self c.self.view_is l f e c.loop-i.invariant
+    list_step c.args.self.now b.starts.items b.ends.items b.items.items c.loop-i.i c.index.result.now c.index-in-loop-i.result.now c.loop-i.lists c.push.new.self c.self.view_is l f e c.loop-i.invariant
     (c.in_ok-push.ensures.ok ∙ ap (λ xs. c.loop-i.lists ++ between c.index.result.now c.index-in-loop-i.result.now xs ∷ []) c.deref.ensures.value)
 
 pub returns : goal.returns

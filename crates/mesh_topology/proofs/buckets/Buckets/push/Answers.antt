@@ -1,6 +1,6 @@
 use Rattle.std.proofs.Common.{◌∙◌, arith, rules}
 use Rattle.std.proofs.lemmas.Grind.{get_or_default_zero}
-use Rattle.mesh_topology.proofs.BucketLemmas.{has_capacity, pushed}
+use Rattle.mesh_topology.proofs.BucketLemmas.{has_capacity, push_is}
 use Rattle.mesh_topology.proofs.buckets.Buckets.push.Goals as goal
 
 pub index-end-requires : goal.index-end-requires
@@ -35,11 +35,11 @@ invariant_of-self c =
     let b = c.self.inside in
     let r = has_capacity c.args.self.now b.starts.items b.ends.items b.items.items c.args.list c.self.view_is c.self.invariant c.requires.below c.requires.capacity in
     let e = c.index-end.ensures ∙ get_or_default_zero b.ends.items c.args.list c.index-end.result.now r.below in
-    (pushed c.args.self.now b.starts.items b.ends.items b.items.items c.args.list c.args.id c.index-end.result.now c.self.view_is c.self.invariant r e).apart
+    (push_is c.args.self.now b.starts.items b.ends.items b.items.items c.args.list c.args.id c.index-end.result.now c.self.view_is c.self.invariant r e).apart
 
 pub returns-clause-lists : goal.returns-clause-lists
 returns-clause-lists c =
     let b = c.self.inside in
     let r = has_capacity c.args.self.now b.starts.items b.ends.items b.items.items c.args.list c.self.view_is c.self.invariant c.requires.below c.requires.capacity in
     let e = c.index-end.ensures ∙ get_or_default_zero b.ends.items c.args.list c.index-end.result.now r.below in
-    (pushed c.args.self.now b.starts.items b.ends.items b.items.items c.args.list c.args.id c.index-end.result.now c.self.view_is c.self.invariant r e).lists
+    (push_is c.args.self.now b.starts.items b.ends.items b.items.items c.args.list c.args.id c.index-end.result.now c.self.view_is c.self.invariant r e).lists

@@ -1,7 +1,7 @@
 use Rattle.std.proofs.Common.{◌-◌, ◌<◌, ◌^◌, [], ◌∙◌, arith, rules}
 use Rattle.std.proofs.lemmas.Grind.{get_or_default_zero}
 use Rattle.std.proofs.lemmas.List.{get_or_read}
-use Rattle.mesh_topology.proofs.PrefixLemmas.{front, longer}
+use Rattle.mesh_topology.proofs.PrefixLemmas.{front, prefix_push}
 use Rattle.mesh_topology.proofs.rows.Rows.push.Goals as goal
 
 pub index-count-requires : goal.index-count-requires
@@ -43,7 +43,7 @@ invariant_of-self g c =
     let f = front g.row.N c.args.self.now b.counts.items b.rows.items c.args.list c.self.view_is c.self.invariant c.requires.below in
     let e = c.index-count.ensures ∙ get_or_default_zero b.counts.items c.args.list c.index-count.result.now f.counted in
     let row = get_or_read b.rows.items c.args.list c.index_mut.result.now f.below c.index_mut.ensures.value [] in
-    let l = longer g.row.N c.args.self.now b.counts.items b.rows.items c.args.list c.args.id c.index-count.result.now c.index_mut.result.now c.self.view_is c.self.invariant f.counted e row (omega (arith, e, f.length_is, c.requires.capacity)) in
+    let l = prefix_push g.row.N c.args.self.now b.counts.items b.rows.items c.args.list c.args.id c.index-count.result.now c.index_mut.result.now c.self.view_is c.self.invariant f.counted e row (omega (arith, e, f.length_is, c.requires.capacity)) in
     l.inside
 
 pub returns : goal.returns
@@ -52,5 +52,5 @@ returns g c =
     let f = front g.row.N c.args.self.now b.counts.items b.rows.items c.args.list c.self.view_is c.self.invariant c.requires.below in
     let e = c.index-count.ensures ∙ get_or_default_zero b.counts.items c.args.list c.index-count.result.now f.counted in
     let row = get_or_read b.rows.items c.args.list c.index_mut.result.now f.below c.index_mut.ensures.value [] in
-    let l = longer g.row.N c.args.self.now b.counts.items b.rows.items c.args.list c.args.id c.index-count.result.now c.index_mut.result.now c.self.view_is c.self.invariant f.counted e row (omega (arith, e, f.length_is, c.requires.capacity)) in
+    let l = prefix_push g.row.N c.args.self.now b.counts.items b.rows.items c.args.list c.args.id c.index-count.result.now c.index_mut.result.now c.self.view_is c.self.invariant f.counted e row (omega (arith, e, f.length_is, c.requires.capacity)) in
     l.are
