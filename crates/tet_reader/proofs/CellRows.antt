@@ -10,7 +10,7 @@ use Rattle.liszt_base.specs.declared.mesh.RawCell.{RawCell}
 use Rattle.text_scan.specs.Numbers.{whole_of, millionths_of}
 use Rattle.text_scan.specs.declared.faults.NumberFault.{NumberFault}
 use Rattle.tet_reader.specs.declared.words.Word.TheVariants.{Real, Corner}
-use Rattle.tet_reader.specs.Tests.{first, row_tests}
+use Rattle.tet_reader.specs.Tests.{first_some, row_tests}
 use Rattle.tet_reader.specs.Headers.{number_at}
 use Rattle.tet_reader.specs.Internal.RowKinds.{value_or_zero, word_number, IsCorner, corner_of, region_of}
 use Rattle.tet_reader.specs.Points.{IsCellRow, Spell, first_or_zero}
@@ -39,8 +39,8 @@ sizes_are read base (word ∷ words) (v ∷ places) e =
     let one : read word ≡ Ok (pos (base + v)) = cc in
     let more : Spell read words (map (λ v. pos (base + v)) places) = cc in
     let size : base + v - base ≡ v = omega arith in
-    let first : magnitude_or_zero (read word) - base ≡ v = ap (λ r. magnitude_or_zero r - base) one ∙ size in
-    cc (first, sizes_are read base words places more)
+    let first_some : magnitude_or_zero (read word) - base ≡ v = ap (λ r. magnitude_or_zero r - base) one ∙ size in
+    cc (first_some, sizes_are read base words places more)
 
 -- the corners that the tests take from a row are those that it spells
 pub corners_are : (base : ℕ) (number_word : List ℕ) (corner_words attribute_words : List (List ℕ)) (places : List ℕ)
@@ -176,7 +176,7 @@ pub record Holds (attributes points base number : ℕ) (words : List (List ℕ))
   pub cell : are_different places ≡ true → (region : ℤ) × (region ≡ first_or_zero values) × IsCellRow attributes points base number words (record { corners = places; region = region })
 
 pub holds : (count place attributes points base number : ℕ) (words : List (List ℕ)) (numbers : List ℤ)
-    → first (row_tests count place (cell_words attributes points base number) words) ≡ None
+    → first_some (row_tests count place (cell_words attributes points base number) words) ≡ None
     → numbers ≡ map word_number (zip (cell_words attributes points base number) words) → Holds attributes points base number words numbers
 holds count place attributes points base number words numbers pass are =
     let expected = cell_words attributes points base number in

@@ -13,7 +13,7 @@ use Rattle.liszt_base.specs.declared.mesh.Point.{Point}
 use Rattle.liszt_base.specs.declared.mesh.RawCell.{RawCell}
 use Rattle.text_scan.specs.Rows.{Row, TextRows, text_rows}
 use Rattle.text_scan.specs.Rows.{row_at}
-use Rattle.tet_reader.specs.Tests.{first}
+use Rattle.tet_reader.specs.Tests.{first_some}
 use Rattle.tet_reader.specs.Headers.{IsEleHeader, ele_numbers, number_at, ele_header_tests}
 use Rattle.tet_reader.specs.Points.{AreNumbered, IsCellRow, Points, Cells}
 use Rattle.tet_reader.specs.Faults.{fault_at, first_number, file_tests, ele_tests, ele_fault, whole_tests, node_fault, cells_fault, mesh_fault, first_mesh_fault}
@@ -38,30 +38,30 @@ use Rattle.tet_reader.proofs.WholeMeshLemmas.{CellCorners, cells_corners, whole_
 -- the tests of the file are those of the header's counts
 ele_same : (points base last : ℕ) (header : Row) (others : List Row) (h : EleHeader) (own : ℕ) → IsEleHeader header.words h.cells h.attributes
     → own ≡ first_number others
-    → first (ele_tests points base last (header ∷ others))
-    ≡ first (file_tests Ele (pos h.cells) (ele_header_tests header.words) (cell_tests h.cells h.attributes points base own) last header others)
+    → first_some (ele_tests points base last (header ∷ others))
+    ≡ first_some (file_tests Ele (pos h.cells) (ele_header_tests header.words) (cell_tests h.cells h.attributes points base own) last header others)
 ele_same points base last header others h own is own_is =
     let numbers : List ℤ = ele_numbers header.words in
     let head = ele_header_tests header.words in
     let first_is : ℕ = first_number others in
     let counts = ele_counts header.words h.cells h.attributes is in
     let count : number_at numbers 0 ≡ pos h.cells = ap (λ (l : List ℤ). number_at l 0) is.numbers in
-    ap (λ (k : ℕ). first (file_tests Ele (number_at numbers 0) head (cell_tests k (nat_abs (number_at numbers 2)) points base first_is) last header others)) counts.0
-    ∙ (ap (λ (k : ℕ). first (file_tests Ele (number_at numbers 0) head (cell_tests h.cells k points base first_is) last header others)) counts.1
-    ∙ (ap (λ (k : ℕ). first (file_tests Ele (number_at numbers 0) head (cell_tests h.cells h.attributes points base k) last header others)) (sym own_is)
-    ∙ ap (λ (z : ℤ). first (file_tests Ele z head (cell_tests h.cells h.attributes points base own) last header others)) count))
+    ap (λ (k : ℕ). first_some (file_tests Ele (number_at numbers 0) head (cell_tests k (nat_abs (number_at numbers 2)) points base first_is) last header others)) counts.0
+    ∙ (ap (λ (k : ℕ). first_some (file_tests Ele (number_at numbers 0) head (cell_tests h.cells k points base first_is) last header others)) counts.1
+    ∙ (ap (λ (k : ℕ). first_some (file_tests Ele (number_at numbers 0) head (cell_tests h.cells h.attributes points base k) last header others)) (sym own_is)
+    ∙ ap (λ (z : ℤ). first_some (file_tests Ele z head (cell_tests h.cells h.attributes points base own) last header others)) count))
 
 -- a row's fault is the file's
 pub ele_row_fault : (points base last : ℕ) (rows : List Row) (h : EleHeader) (own place : ℕ) (what : MeshWhat) (line : ℕ) (found : MeshFault) → HeadsEle rows h
     → own ≡ first_number (drop 1 rows) → place < length (drop 1 rows)
     → AllPass (cell_tests h.cells h.attributes points base own) 0 (take place (drop 1 rows))
-    → first (cell_tests h.cells h.attributes points base own place (row_at rows (place + 1)).words) ≡ Some what
-    → line ≡ (row_at rows (place + 1)).line → found ≡ fault_at Ele (pos h.cells) line what → first (ele_tests points base last rows) ≡ Some found
+    → first_some (cell_tests h.cells h.attributes points base own place (row_at rows (place + 1)).words) ≡ Some what
+    → line ≡ (row_at rows (place + 1)).line → found ≡ fault_at Ele (pos h.cells) line what → first_some (ele_tests points base last rows) ≡ Some found
 ele_row_fault points base last [] h own place what line found heads own_is lt pass wrong line_is e = absurd (omega arith)
 ele_row_fault points base last (header ∷ others) h own place what line found heads own_is lt pass wrong line_is e =
     let row = row_after_header header others place in
     let tests = cell_tests h.cells h.attributes points base own in
-    let wrong' : first (tests place (row_at others place).words) ≡ Some what = ap (λ r. first (tests place r.words)) (sym row) ∙ wrong in
+    let wrong' : first_some (tests place (row_at others place).words) ≡ Some what = ap (λ r. first_some (tests place r.words)) (sym row) ∙ wrong in
     let head = ele_header_passes header.words h.cells h.attributes heads.1 in
     let line_is' : line ≡ (row_at others place).line = line_is ∙ ap (λ r. r.line) row in
     ele_same points base last header others h own heads.1 own_is
@@ -77,7 +77,7 @@ cells_within points base rows h own pass =
 -- too few rows
 pub ele_missing : (points base last : ℕ) (rows : List Row) (h : EleHeader) (own : ℕ) (cells : List RawCell) (found : MeshFault) → HeadsEle rows h
     → own ≡ first_number (drop 1 rows) → AreNumbered (IsCellRow h.attributes points base) own (drop 1 rows) cells → length cells < h.cells
-    → found ≡ fault_at Ele (pos h.cells) last Missing → first (ele_tests points base last rows) ≡ Some found
+    → found ≡ fault_at Ele (pos h.cells) last Missing → first_some (ele_tests points base last rows) ≡ Some found
 ele_missing points base last [] h own cells found heads own_is each few e = absurd (omega (arith, heads.0))
 ele_missing points base last (header ∷ others) h own cells found heads own_is each few e =
     let count = numbered_length (IsCellRow h.attributes points base) own others cells each in
@@ -135,7 +135,7 @@ pub misfit_is : (points : List Point) (base : ℕ) (ele : TextRows) (cells : Lis
 misfit_is points base ele cells none h =
     let corners = (cells_corners ele.rows points base cells h).0 in
     let whole = first_whole_fault base (drop 1 ele.rows) in
-    ap (λ o. first (o ∷ whole_tests base (drop 1 ele.rows))) none
+    ap (λ o. first_some (o ∷ whole_tests base (drop 1 ele.rows))) none
     ∙ (whole ∙ ap (λ l. option_map (misfit_fault (drop 1 ele.rows)) (first_misfit l)) corners)
 
 -- a misfit is among the cells
@@ -156,7 +156,7 @@ pub mesh_fits : (points : List Point) (base : ℕ) (ele : TextRows) (cells : Lis
 mesh_fits points base ele cells none h no_misfit =
     let corners = cells_corners ele.rows points base cells h in
     let fault = misfit_is points base ele cells none h ∙ ap (option_map (misfit_fault (drop 1 ele.rows))) (sym no_misfit) in
-    let whole : first (whole_tests base (drop 1 ele.rows)) ≡ None = sym (ap (λ o. first (o ∷ whole_tests base (drop 1 ele.rows))) none) ∙ fault in
+    let whole : first_some (whole_tests base (drop 1 ele.rows)) ≡ None = sym (ap (λ o. first_some (o ∷ whole_tests base (drop 1 ele.rows))) none) ∙ fault in
     let together = whole_spelled base (drop 1 ele.rows) (each_none (whole_tests base (drop 1 ele.rows)) whole) in
     (fault, record { each = corners.1; together = subst (λ l. FitTogether l) corners.0 together })
 
@@ -180,7 +180,7 @@ mesh_read node_bytes ele_bytes node ele table result p q none points read =
     let same : first_mesh_fault node_bytes ele_bytes ≡ mesh_fault node ele = cc (ap (λ n. mesh_fault n (text_rows ele_bytes)) p, ap (mesh_fault node) q) in
     let faults = same_faults node ele table.base table.list points in
     let rest : mesh_fault node ele ≡ cells_fault (length table.list) table.base ele =
-    faults ∙ ap (λ o. first (o ∷ ele_fault (length table.list) table.base ele ∷ whole_tests table.base (drop 1 ele.rows))) none in
+    faults ∙ ap (λ o. first_some (o ∷ ele_fault (length table.list) table.base ele ∷ whole_tests table.base (drop 1 ele.rows))) none in
     go result (same ∙ rest) read
   where
     go : (r : Result MeshLists (Refused MeshFault)) → first_mesh_fault node_bytes ele_bytes ≡ cells_fault (length table.list) table.base ele

@@ -9,7 +9,7 @@ use Rattle.std.proofs.lemmas.List.{length-map, length-append, length-drop}
 use Rattle.liszt_base.specs.declared.answers.MeshWhat.{MeshWhat}
 use Rattle.liszt_base.specs.declared.answers.MeshWhat.TheVariants.{Header, Dimension, SecondOrder, TooMany}
 use Rattle.text_scan.specs.Numbers.{is_whole}
-use Rattle.tet_reader.specs.Tests.{unless, is_within, first}
+use Rattle.tet_reader.specs.Tests.{unless, is_within, first_some}
 use Rattle.tet_reader.specs.Headers.{header_numbers, node_numbers, ele_numbers, IsNodeHeader, IsEleHeader, number_at, spelling_test}
 use Rattle.tet_reader.specs.Headers.{count_test, corners_test, node_number_tests, ele_number_tests, node_header_tests, ele_header_tests}
 use Rattle.tet_reader.proofs.Tests.{is_within_passes, within_is, unless_none, none_unless, FindNone, each_none}
@@ -165,16 +165,16 @@ ele_counts words cells attributes h =
 
 -- spelled numbers whose tests find nothing are a header's
 pub node_read : (words : List (List ℕ)) (numbers : List ℤ) → (nat_le (length words) 4 && list_all is_whole words) ≡ true → numbers ≡ node_numbers words
-    → first (node_number_tests numbers) ≡ None
+    → first_some (node_number_tests numbers) ≡ None
     → IsNodeHeader words (nat_abs (number_at numbers 0)) (nat_abs (number_at numbers 2)) (nat_abs (number_at numbers 3))
 node_read words numbers spelled are pass =
-    let tests : FindNone (node_number_tests (node_numbers words)) = each_none (node_number_tests (node_numbers words)) (ap (λ l. first (node_number_tests l)) (sym are) ∙ pass) in
+    let tests : FindNone (node_number_tests (node_numbers words)) = each_none (node_number_tests (node_numbers words)) (ap (λ l. first_some (node_number_tests l)) (sym are) ∙ pass) in
     let h = node_header_spelled words (none_unless _ Header spelled, tests) in
     subst (λ (l : List ℤ). IsNodeHeader words (nat_abs (number_at l 0)) (nat_abs (number_at l 2)) (nat_abs (number_at l 3))) (sym are) h
 
 pub ele_read : (words : List (List ℕ)) (numbers : List ℤ) → (nat_le (length words) 3 && list_all is_whole words) ≡ true → numbers ≡ ele_numbers words
-    → first (ele_number_tests numbers) ≡ None → IsEleHeader words (nat_abs (number_at numbers 0)) (nat_abs (number_at numbers 2))
+    → first_some (ele_number_tests numbers) ≡ None → IsEleHeader words (nat_abs (number_at numbers 0)) (nat_abs (number_at numbers 2))
 ele_read words numbers spelled are pass =
-    let tests : FindNone (ele_number_tests (ele_numbers words)) = each_none (ele_number_tests (ele_numbers words)) (ap (λ l. first (ele_number_tests l)) (sym are) ∙ pass) in
+    let tests : FindNone (ele_number_tests (ele_numbers words)) = each_none (ele_number_tests (ele_numbers words)) (ap (λ l. first_some (ele_number_tests l)) (sym are) ∙ pass) in
     let h = ele_header_spelled words (none_unless _ Header spelled, tests) in
     subst (λ (l : List ℤ). IsEleHeader words (nat_abs (number_at l 0)) (nat_abs (number_at l 2))) (sym are) h

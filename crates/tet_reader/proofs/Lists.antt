@@ -9,7 +9,7 @@ use Rattle.liszt_base.specs.declared.answers.MeshWhat.TheVariants.{CornerTwice}
 use Rattle.liszt_base.specs.declared.mesh.Point.{Point}
 use Rattle.liszt_base.specs.declared.mesh.RawCell.{RawCell}
 use Rattle.text_scan.specs.Rows.{Row}
-use Rattle.tet_reader.specs.Tests.{first, unless, row_tests}
+use Rattle.tet_reader.specs.Tests.{first_some, unless, row_tests}
 use Rattle.tet_reader.specs.declared.words.Word.{Word}
 use Rattle.tet_reader.specs.Headers.{node_numbers, ele_numbers, IsNodeHeader, IsEleHeader, number_at, node_header_tests, ele_header_tests}
 use Rattle.tet_reader.specs.Points.{AreNumbered, IsPointRow, IsCellRow, Points, Cells}
@@ -102,7 +102,7 @@ point_kind count attributes markers base =
     }
 
 -- a node file with no fault spells some points
-pub node_spelled : (last : ℕ) (rows : List Row) → first (node_tests last rows) ≡ None
+pub node_spelled : (last : ℕ) (rows : List Row) → first_some (node_tests last rows) ≡ None
     → (base : ℕ) × (points : List Point) × Points rows base points
 node_spelled last [] e = cc
 node_spelled last (header ∷ others) e =
@@ -136,7 +136,7 @@ node_spelled last (header ∷ others) e =
 node_rows_passes : (last : ℕ) (header : Row) (others : List Row) (base : ℕ) (points : List Point) (attributes markers : ℕ)
     → IsNodeHeader header.words (length points) attributes markers
     → first_number others ≡ base → AreNumbered (IsPointRow attributes markers) base others points
-    → first (node_tests last (header ∷ others)) ≡ None
+    → first_some (node_tests last (header ∷ others)) ≡ None
 node_rows_passes last header others base points attributes markers is base_is each =
     let numbers : List ℤ = node_numbers header.words in
     let counts = node_counts header.words (length points) attributes markers is in
@@ -153,10 +153,10 @@ node_rows_passes last header others base points attributes markers is base_is ea
     file_passes Node (number_at numbers 0) (node_header_tests header.words) tests last header others head pass (omega (arith, counts.0))
 
 pub node_passes : (last : ℕ) (rows : List Row) (base : ℕ) (points : List Point) → Points rows base points
-    → first (node_tests last rows) ≡ None
+    → first_some (node_tests last rows) ≡ None
 node_passes last rows base points h =
     let base_is = point_first h.attributes h.markers base h.others points h.base_is h.base_of_none h.each in
-    ap (λ (l : List Row). first (node_tests last l)) h.rows_are
+    ap (λ (l : List Row). first_some (node_tests last l)) h.rows_are
     ∙ node_rows_passes last h.header h.others base points h.attributes h.markers h.header_is base_is h.each
 
 -- the tests of a cell's row, by its place
@@ -186,7 +186,7 @@ cell_kind count attributes points base own =
     }
 
 -- an ele file over points with no fault spells some cells
-pub ele_spelled : (points : List Point) (base last : ℕ) (rows : List Row) → first (ele_tests (length points) base last rows) ≡ None
+pub ele_spelled : (points : List Point) (base last : ℕ) (rows : List Row) → first_some (ele_tests (length points) base last rows) ≡ None
     → (cells : List RawCell) × Cells rows points base cells
 ele_spelled points base last [] e = cc
 ele_spelled points base last (header ∷ others) e =
@@ -229,7 +229,7 @@ cells_pass count attributes points base start (row ∷ rows) cells le within eac
 ele_rows_passes : (points : List Point) (base last : ℕ) (header : Row) (others : List Row) (cells : List RawCell) (attributes start : ℕ)
     → IsEleHeader header.words (length cells) attributes → start ≤ 1
     → AreNumbered (IsCellRow attributes (length points) base) start others cells
-    → first (ele_tests (length points) base last (header ∷ others)) ≡ None
+    → first_some (ele_tests (length points) base last (header ∷ others)) ≡ None
 ele_rows_passes points base last header others cells attributes start is start_is each =
     let numbers : List ℤ = ele_numbers header.words in
     let counts = ele_counts header.words (length cells) attributes is in
@@ -243,7 +243,7 @@ ele_rows_passes points base last header others cells attributes start is start_i
     file_passes Ele (number_at numbers 0) (ele_header_tests header.words) tests last header others head pass (omega (arith, counts.0))
 
 pub ele_passes : (points : List Point) (base last : ℕ) (rows : List Row) (cells : List RawCell) → Cells rows points base cells
-    → first (ele_tests (length points) base last rows) ≡ None
+    → first_some (ele_tests (length points) base last rows) ≡ None
 ele_passes points base last rows cells h =
-    ap (λ (l : List Row). first (ele_tests (length points) base last l)) h.rows_are
+    ap (λ (l : List Row). first_some (ele_tests (length points) base last l)) h.rows_are
     ∙ ele_rows_passes points base last h.header h.others cells h.attributes h.first h.header_is h.first_is h.each

@@ -8,7 +8,7 @@ use Rattle.liszt_base.specs.declared.answers.MeshWhat.TheVariants.{Missing}
 use Rattle.liszt_base.specs.declared.mesh.Point.{Point}
 use Rattle.text_scan.specs.Rows.{Row}
 use Rattle.text_scan.specs.Rows.{row_at}
-use Rattle.tet_reader.specs.Tests.{first, row_tests}
+use Rattle.tet_reader.specs.Tests.{first_some, row_tests}
 use Rattle.tet_reader.specs.Headers.{IsNodeHeader, node_numbers, number_at, node_header_tests}
 use Rattle.tet_reader.specs.Points.{AreNumbered, IsPointRow, Points}
 use Rattle.tet_reader.specs.Faults.{fault_at, first_number, point_words, file_tests, node_tests}
@@ -30,33 +30,33 @@ after_first (header ∷ others) place some = row_after_header header others plac
 -- the tests of the file are those of the header's counts
 node_same : (last : ℕ) (header : Row) (others : List Row) (h : NodeHeader) (base : ℕ) → IsNodeHeader header.words h.points h.attributes h.markers
     → base ≡ first_number others
-    → first (node_tests last (header ∷ others))
-    ≡ first (file_tests Node (pos h.points) (node_header_tests header.words) (point_tests h.points h.attributes h.markers base) last header others)
+    → first_some (node_tests last (header ∷ others))
+    ≡ first_some (file_tests Node (pos h.points) (node_header_tests header.words) (point_tests h.points h.attributes h.markers base) last header others)
 node_same last header others h base is base_is =
     let numbers : List ℤ = node_numbers header.words in
     let head = node_header_tests header.words in
     let own : ℕ = first_number others in
     let counts = node_counts header.words h.points h.attributes h.markers is in
     let count : number_at numbers 0 ≡ pos h.points = ap (λ (l : List ℤ). number_at l 0) is.numbers in
-    ap (λ (k : ℕ). first (file_tests Node (number_at numbers 0) head
+    ap (λ (k : ℕ). first_some (file_tests Node (number_at numbers 0) head
     (point_tests k (nat_abs (number_at numbers 2)) (nat_abs (number_at numbers 3)) own) last header others)) counts.0
-    ∙ (ap (λ (k : ℕ). first (file_tests Node (number_at numbers 0) head
+    ∙ (ap (λ (k : ℕ). first_some (file_tests Node (number_at numbers 0) head
     (point_tests h.points k (nat_abs (number_at numbers 3)) own) last header others)) counts.1
-    ∙ (ap (λ (k : ℕ). first (file_tests Node (number_at numbers 0) head (point_tests h.points h.attributes k own) last header others)) counts.2
-    ∙ (ap (λ (k : ℕ). first (file_tests Node (number_at numbers 0) head (point_tests h.points h.attributes h.markers k) last header others)) (sym base_is)
-    ∙ ap (λ (z : ℤ). first (file_tests Node z head (point_tests h.points h.attributes h.markers base) last header others)) count)))
+    ∙ (ap (λ (k : ℕ). first_some (file_tests Node (number_at numbers 0) head (point_tests h.points h.attributes k own) last header others)) counts.2
+    ∙ (ap (λ (k : ℕ). first_some (file_tests Node (number_at numbers 0) head (point_tests h.points h.attributes h.markers k) last header others)) (sym base_is)
+    ∙ ap (λ (z : ℤ). first_some (file_tests Node z head (point_tests h.points h.attributes h.markers base) last header others)) count)))
 
 -- a row's fault is the file's
 pub node_row_fault : (last : ℕ) (rows : List Row) (h : NodeHeader) (base place : ℕ) (what : MeshWhat) (line : ℕ) (found : MeshFault) → HeadsNode rows h
     → base ≡ first_number (drop 1 rows) → place < length (drop 1 rows)
     → AllPass (point_tests h.points h.attributes h.markers base) 0 (take place (drop 1 rows))
-    → first (row_tests h.points place (point_words h.attributes h.markers (base + place)) (row_at rows (place + 1)).words) ≡ Some what
-    → line ≡ (row_at rows (place + 1)).line → found ≡ fault_at Node (pos h.points) line what → first (node_tests last rows) ≡ Some found
+    → first_some (row_tests h.points place (point_words h.attributes h.markers (base + place)) (row_at rows (place + 1)).words) ≡ Some what
+    → line ≡ (row_at rows (place + 1)).line → found ≡ fault_at Node (pos h.points) line what → first_some (node_tests last rows) ≡ Some found
 node_row_fault last [] h base place what line found heads base_is lt pass wrong line_is e = absurd (omega arith)
 node_row_fault last (header ∷ others) h base place what line found heads base_is lt pass wrong line_is e =
     let row = row_after_header header others place in
     let tests = point_tests h.points h.attributes h.markers base in
-    let wrong' : first (tests place (row_at others place).words) ≡ Some what = ap (λ r. first (tests place r.words)) (sym row) ∙ wrong in
+    let wrong' : first_some (tests place (row_at others place).words) ≡ Some what = ap (λ r. first_some (tests place r.words)) (sym row) ∙ wrong in
     let head = node_header_passes header.words h.points h.attributes h.markers heads.1 in
     let line_is' : line ≡ (row_at others place).line = line_is ∙ ap (λ r. r.line) row in
     node_same last header others h base heads.1 base_is
@@ -71,7 +71,7 @@ points_within rows h base pass = let w = rows_within (point_kind h.points h.attr
 -- too few rows
 pub node_missing : (last : ℕ) (rows : List Row) (h : NodeHeader) (base : ℕ) (points : List Point) (found : MeshFault) → HeadsNode rows h
     → base ≡ first_number (drop 1 rows) → AreNumbered (IsPointRow h.attributes h.markers) base (drop 1 rows) points → length points < h.points
-    → found ≡ fault_at Node (pos h.points) last Missing → first (node_tests last rows) ≡ Some found
+    → found ≡ fault_at Node (pos h.points) last Missing → first_some (node_tests last rows) ≡ Some found
 node_missing last [] h base points found heads base_is each few e = absurd (omega (arith, heads.0))
 node_missing last (header ∷ others) h base points found heads base_is each few e =
     let count = numbered_length (IsPointRow h.attributes h.markers) base others points each in

@@ -8,7 +8,7 @@ use Rattle.liszt_base.specs.declared.mesh.Point.{Point}
 use Rattle.text_scan.specs.Numbers.{whole_of, millionths_of}
 use Rattle.tet_reader.specs.declared.words.Word.{Word}
 use Rattle.tet_reader.specs.declared.words.Word.TheVariants.{Number, Real, Marker}
-use Rattle.tet_reader.specs.Tests.{first, row_tests}
+use Rattle.tet_reader.specs.Tests.{first_some, row_tests}
 use Rattle.tet_reader.specs.Headers.{number_at}
 use Rattle.tet_reader.specs.Internal.RowKinds.{value_or_zero, word_number, mark_of}
 use Rattle.tet_reader.specs.Points.{IsPointRow, first_or_zero}
@@ -149,7 +149,7 @@ mark_is attributes markers number x y z numbers (mark ∷ marks) l k =
 
 -- the row is that of the point of these numbers
 pub point_read : (count place attributes markers number : ℕ) (words : List (List ℕ)) (numbers : List ℤ)
-    → first (row_tests count place (point_words attributes markers number) words) ≡ None
+    → first_some (row_tests count place (point_words attributes markers number) words) ≡ None
     → numbers ≡ map word_number (zip (point_words attributes markers number) words)
     → IsPointRow attributes markers number words
     (record { x = number_at numbers 1; y = number_at numbers 2; z = number_at numbers 3; mark = mark_of attributes markers numbers })
@@ -171,7 +171,7 @@ point_read count place attributes markers number words numbers pass are =
 
 -- how many numbers there are
 pub point_count : (count place attributes markers number : ℕ) (words : List (List ℕ)) (numbers : List ℤ)
-    → first (row_tests count place (point_words attributes markers number) words) ≡ None
+    → first_some (row_tests count place (point_words attributes markers number) words) ≡ None
     → numbers ≡ map word_number (zip (point_words attributes markers number) words) → length numbers ≡ 4 + attributes + markers
 point_count count place attributes markers number words numbers pass are =
     let expected = point_words attributes markers number in

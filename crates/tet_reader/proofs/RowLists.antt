@@ -11,7 +11,7 @@ use Rattle.liszt_base.specs.declared.answers.MeshWhat.{MeshWhat}
 use Rattle.liszt_base.specs.declared.answers.MeshWhat.TheVariants.{Missing}
 use Rattle.text_scan.specs.Numbers.{whole_of}
 use Rattle.text_scan.specs.Rows.{Row}
-use Rattle.tet_reader.specs.Tests.{first, unless}
+use Rattle.tet_reader.specs.Tests.{first_some, unless}
 use Rattle.tet_reader.specs.Points.{AreNumbered}
 use Rattle.tet_reader.specs.Faults.{fault_at, is_one, first_number, line_fault, file_tests}
 use Rattle.tet_reader.proofs.Tests.{unless_none, none_unless, FindNone, each_none, first_none, none_append, append_none}
@@ -29,7 +29,7 @@ map_none f (Some x) e = cc
 -- a line's tests find no fault where each finds nothing
 line_spelled : (file : MeshFile) (count : ℤ) (line : ℕ) (tests : List (Option MeshWhat)) → line_fault file count line tests ≡ None
     → FindNone tests
-line_spelled file count line tests e = each_none tests (map_none (fault_at file count line) (first tests) e)
+line_spelled file count line tests e = each_none tests (map_none (fault_at file count line) (first_some tests) e)
 
 pub line_passes : (file : MeshFile) (count : ℤ) (line : ℕ) (tests : List (Option MeshWhat)) → FindNone tests
     → line_fault file count line tests ≡ None
@@ -59,7 +59,7 @@ last_tests count rows = unless (nat_le (nat_abs count) (length rows)) Missing �
 -- a file's tests find nothing where those of its header and of its rows do, and no row is missing
 pub file_spelled : (file : MeshFile) (count : ℤ) (header_tests : List (Option MeshWhat)) (tests : ℕ → List (List ℕ) → List (Option MeshWhat))
     (last : ℕ) (header : Row) (rows : List Row)
-    → first (file_tests file count header_tests tests last header rows) ≡ None
+    → first_some (file_tests file count header_tests tests last header rows) ≡ None
     → FindNone header_tests × AllPass tests 0 rows × (nat_abs count ≤ length rows)
 file_spelled file count header_tests tests last header rows e =
     let all = each_none (file_tests file count header_tests tests last header rows) e in
@@ -72,7 +72,7 @@ file_spelled file count header_tests tests last header rows e =
 pub file_passes : (file : MeshFile) (count : ℤ) (header_tests : List (Option MeshWhat)) (tests : ℕ → List (List ℕ) → List (Option MeshWhat))
     (last : ℕ) (header : Row) (rows : List Row)
     → FindNone header_tests → AllPass tests 0 rows → nat_abs count ≤ length rows
-    → first (file_tests file count header_tests tests last header rows) ≡ None
+    → first_some (file_tests file count header_tests tests last header rows) ≡ None
 file_passes file count header_tests tests last header rows head pass enough =
     let end : List (Option MeshFault) = line_fault file count last (last_tests count rows) ∷ [] in
     let none : FindNone (last_tests count rows) = (none_unless _ Missing (le-leb (nat_abs count) (length rows) enough), tt) in

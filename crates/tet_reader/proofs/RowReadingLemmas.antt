@@ -10,7 +10,7 @@ use Rattle.liszt_base.specs.declared.answers.MeshWhat.{MeshWhat}
 use Rattle.liszt_base.specs.declared.answers.MeshWhat.TheVariants.{Missing}
 use Rattle.text_scan.specs.Rows.{Row}
 use Rattle.text_scan.specs.Rows.{row_at}
-use Rattle.tet_reader.specs.Tests.{first}
+use Rattle.tet_reader.specs.Tests.{first_some}
 use Rattle.tet_reader.specs.Points.{AreNumbered}
 use Rattle.tet_reader.specs.Faults.{fault_at, line_fault, file_tests}
 use Rattle.tet_reader.proofs.Tests.{FindNone, each_none, first_none}
@@ -57,7 +57,7 @@ numbered_more R number (row ∷ rows) (other ∷ items) (suc place) item lt h on
 
 -- a row more
 pub row_read : {A : Type 0} (tests : Tests) (IsRowOf : ℕ → List (List ℕ) → A → Type 0) (number : ℕ) (rows : List Row) (items items' : List A) (place : ℕ) (item : A)
-    → place < length rows → AreReadUpTo tests IsRowOf number rows items place → first (tests place (row_at rows place).words) ≡ None
+    → place < length rows → AreReadUpTo tests IsRowOf number rows items place → first_some (tests place (row_at rows place).words) ≡ None
     → IsRowOf (number + place) (row_at rows place).words item → items' ≡ items ++ item ∷ [] → AreReadUpTo tests IsRowOf number rows items' (place + 1)
 row_read tests IsRowOf number rows items items' place item lt h pass is same = record {
   pass = pass_more tests 0 rows place lt h.pass
@@ -77,33 +77,33 @@ all_rows_read tests IsRowOf number rows items place h all =
 -- ---- the first fault
 
 found_among : (file : MeshFile) (count : ℤ) (tests : Tests) (start : ℕ) (rows : List Row) (place : ℕ) (what : MeshWhat) (end : List (Option MeshFault))
-    → place < length rows → AllPass tests start (take place rows) → first (tests (start + place) (row_at rows place).words) ≡ Some what
-    → first (row_faults file count tests start rows ++ end) ≡ Some (fault_at file count (row_at rows place).line what)
+    → place < length rows → AllPass tests start (take place rows) → first_some (tests (start + place) (row_at rows place).words) ≡ Some what
+    → first_some (row_faults file count tests start rows ++ end) ≡ Some (fault_at file count (row_at rows place).line what)
 found_among file count tests start [] place what end lt h wrong = absurd (omega arith)
 found_among file count tests start (row ∷ rows) zero what end lt h wrong =
-    let here : first (tests start row.words) ≡ Some what = ap (λ k. first (tests k row.words)) (sym (add-zero start)) ∙ wrong in
+    let here : first_some (tests start row.words) ≡ Some what = ap (λ k. first_some (tests k row.words)) (sym (add-zero start)) ∙ wrong in
     rw here refl
 found_among file count tests start (row ∷ rows) (suc place) what end lt h wrong =
     let number : start + suc place ≡ start + 1 + place = omega arith in
     let none = line_passes file count row.line (tests start row.words) h.0 in
     let more = found_among file count tests (start + 1) rows place what end (omega arith) h.1
-    (ap (λ k. first (tests k (row_at rows place).words)) (sym number) ∙ wrong) in
+    (ap (λ k. first_some (tests k (row_at rows place).words)) (sym number) ∙ wrong) in
     rw none more
 
 -- a row's fault is the file's, where the header and the rows before it pass
 pub row_fault : (file : MeshFile) (count : ℤ) (header_tests : List (Option MeshWhat)) (tests : Tests) (last : ℕ) (header : Row) (rows : List Row) (place : ℕ)
     (what : MeshWhat) → FindNone header_tests → place < length rows → AllPass tests 0 (take place rows)
-    → first (tests place (row_at rows place).words) ≡ Some what
-    → first (file_tests file count header_tests tests last header rows) ≡ Some (fault_at file count (row_at rows place).line what)
+    → first_some (tests place (row_at rows place).words) ≡ Some what
+    → first_some (file_tests file count header_tests tests last header rows) ≡ Some (fault_at file count (row_at rows place).line what)
 row_fault file count header_tests tests last header rows place what head lt h wrong =
     let none = line_passes file count header.line header_tests head in
     rw none (found_among file count tests 0 rows place what (line_fault file count last (last_tests count rows) ∷ []) lt h
-    (ap (λ k. first (tests k (row_at rows place).words)) (zero-add place) ∙ wrong))
+    (ap (λ k. first_some (tests k (row_at rows place).words)) (zero-add place) ∙ wrong))
 
 -- that a row is missing is the file's fault, where the header and the rows pass
 pub missing_fault : (file : MeshFile) (count : ℤ) (header_tests : List (Option MeshWhat)) (tests : Tests) (last : ℕ) (header : Row) (rows : List Row)
     → FindNone header_tests → AllPass tests 0 rows → length rows < nat_abs count
-    → first (file_tests file count header_tests tests last header rows) ≡ Some (fault_at file count last Missing)
+    → first_some (file_tests file count header_tests tests last header rows) ≡ Some (fault_at file count last Missing)
 missing_fault file count header_tests tests last header rows head pass few =
     let none = line_passes file count header.line header_tests head in
     let rest = first_none (row_faults file count tests 0 rows) (pass_rows file count tests 0 rows pass) in

@@ -8,7 +8,7 @@ use Rattle.liszt_base.specs.declared.answers.MeshWhat.{MeshWhat}
 use Rattle.liszt_base.specs.declared.answers.MeshWhat.TheVariants.{NumberOrder, CornerRange, Missing, Extra}
 use Rattle.text_scan.specs.declared.faults.NumberFault.{NumberFault}
 use Rattle.text_scan.specs.declared.faults.NumberFault.TheVariants.{BadNumber as NoNumber, CoordRange as TooFar}
-use Rattle.tet_reader.specs.Tests.{unless, first, is_within, number_test, real_test, marker_test, is_corner, corner_test, word_test}
+use Rattle.tet_reader.specs.Tests.{unless, first_some, is_within, number_test, real_test, marker_test, is_corner, corner_test, word_test}
 use Rattle.tet_reader.specs.declared.words.Word.{Word}
 use Rattle.tet_reader.specs.Tests.{row_tests}
 
@@ -35,12 +35,12 @@ abbrev pub FindNone : {A : Type 0} → List (Option A) → Type 0
 FindNone tests = AllByRecursion (λ test. test ≡ None) tests
 
 -- the first fault of several tests is none where each finds nothing
-pub each_none : {A : Type 0} (tests : List (Option A)) → first tests ≡ None → FindNone tests
+pub each_none : {A : Type 0} (tests : List (Option A)) → first_some tests ≡ None → FindNone tests
 each_none [] e = tt
 each_none (None ∷ tests) e = (refl, each_none tests e)
 each_none (Some fault ∷ tests) e = cc
 
-pub first_none : {A : Type 0} (tests : List (Option A)) → FindNone tests → first tests ≡ None
+pub first_none : {A : Type 0} (tests : List (Option A)) → FindNone tests → first_some tests ≡ None
 first_none [] h = refl
 first_none (test ∷ tests) h = rw h.0 (first_none tests h.1)
 

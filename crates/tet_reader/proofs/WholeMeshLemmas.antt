@@ -10,7 +10,7 @@ use Rattle.liszt_base.specs.declared.answers.MeshWhat.TheVariants.{CellTwice, Fa
 use Rattle.liszt_base.specs.declared.mesh.Point.{Point}
 use Rattle.liszt_base.specs.declared.mesh.RawCell.{RawCell}
 use Rattle.text_scan.specs.Rows.{Row, TextRows}
-use Rattle.tet_reader.specs.Tests.{first}
+use Rattle.tet_reader.specs.Tests.{first_some}
 use Rattle.tet_reader.specs.Points.{AreNumbered, IsCellRow, Points, Cells}
 use Rattle.tet_reader.specs.Faults.{first_number, row_corners, cell_fault, whole_tests, node_fault, ele_fault, mesh_fault}
 use Rattle.tet_reader.proofs.Tests.{FindNone, each_none, first_none, none_append, append_none}
@@ -101,12 +101,12 @@ faults node ele points base = node_fault node ∷ ele_fault points base ele ∷ 
 
 -- over points that the node file spells, the tests are those over their count and base
 pub same_faults : (node ele : TextRows) (base : ℕ) (points : List Point) → Points node.rows base points
-    → mesh_fault node ele ≡ first (faults node ele (length points) base)
+    → mesh_fault node ele ≡ first_some (faults node ele (length points) base)
 same_faults node ele base points h =
     let count = points_count node.rows base points h in
     let own = points_base node.rows base points h in
-    ap (λ (k : ℕ). first (faults node ele k (first_number (drop 1 node.rows)))) count
-    ∙ ap (λ (b : ℕ). first (faults node ele (length points) b)) own
+    ap (λ (k : ℕ). first_some (faults node ele k (first_number (drop 1 node.rows)))) count
+    ∙ ap (λ (b : ℕ). first_some (faults node ele (length points) b)) own
 
 -- over points that the node file spells, no fault makes a mesh
 mesh_over : (node ele : TextRows) (base : ℕ) (points : List Point) → Points node.rows base points

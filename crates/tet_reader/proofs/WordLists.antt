@@ -8,7 +8,7 @@ use mir.Syntax.{w64}
 use mir.Val.{SFits}
 use Rattle.text_scan.proofs.RangeLemmas.{whole_fits, millionths_fits}
 use Rattle.tet_reader.specs.declared.words.Word.TheVariants.{Number, Real, Marker, Corner}
-use Rattle.tet_reader.specs.Tests.{first, word_test}
+use Rattle.tet_reader.specs.Tests.{first_some, word_test}
 use Rattle.tet_reader.specs.Internal.RowKinds.{expected_words, word_value, value_or_zero, word_number}
 use Rattle.tet_reader.specs.declared.words.Word.{Word}
 use Rattle.tet_reader.specs.declared.kinds.RowKind.{RowKind}
@@ -17,7 +17,7 @@ use Rattle.tet_reader.specs.declared.kinds.RowKind.TheVariants.{PointRow, CellRo
 -- ---- lists
 
 -- the first of two lists of tests one after the other, where those in front find nothing
-pub first_after : {A : Type 0} (xs ys : List (Option A)) → first xs ≡ None → first (xs ++ ys) ≡ first ys
+pub first_after : {A : Type 0} (xs ys : List (Option A)) → first_some xs ≡ None → first_some (xs ++ ys) ≡ first_some ys
 first_after [] ys e = refl
 first_after (None ∷ xs) ys e = first_after xs ys e
 first_after (Some x ∷ xs) ys e = cc
@@ -62,7 +62,7 @@ tests_of pairs = map (λ w. word_test w.0 w.1) pairs
 
 -- The words before a place passed, and these are their numbers.
 pub record AreRead (expected : List Word) (words : List (List ℕ)) (numbers : List ℤ) (place : ℕ) : Type 0 where
-  pub pass : first (tests_of (take place (zip expected words))) ≡ None
+  pub pass : first_some (tests_of (take place (zip expected words))) ≡ None
   pub are : numbers ≡ map word_number (take place (zip expected words))
 
 pub none_read : (expected : List Word) (words : List (List ℕ)) (numbers : List ℤ) → numbers ≡ [] → AreRead expected words numbers 0
@@ -85,30 +85,30 @@ word_read expected words numbers place want word value h at at' passes value_is 
     let numbers_are : map word_number (take (place + 1) pairs) ≡ map word_number (take place pairs) ++ value_or_zero (word_value want word) ∷ [] =
     ap (map word_number) more ∙ map-append word_number (take place pairs) ((want, word) ∷ []) in
     record {
-      pass = ap first tests ∙ (first_after (tests_of (take place pairs)) (word_test want word ∷ []) h.pass ∙ ap (λ t. first (t ∷ [])) passes);
+      pass = ap first_some tests ∙ (first_after (tests_of (take place pairs)) (word_test want word ∷ []) h.pass ∙ ap (λ t. first_some (t ∷ [])) passes);
       are = cc (h.are, numbers_are, ap value_or_zero value_is);
     }
 
 -- a word's fault is the first
 pub word_wrong : (expected : List Word) (words : List (List ℕ)) (numbers : List ℤ) (place : ℕ) (want : Word) (word : List ℕ) (what : MeshWhat)
     → AreRead expected words numbers place → slice_get expected place ≡ Some want → slice_get words place ≡ Some word
-    → word_test want word ≡ Some what → first (tests_of (zip expected words)) ≡ Some what
+    → word_test want word ≡ Some what → first_some (tests_of (zip expected words)) ≡ Some what
 word_wrong expected words numbers place want word what h at at' wrong =
     let pairs = zip expected words in
     let parts = parted pairs place (want, word) (zip_at expected words place want word at at') in
     let tests : tests_of pairs ≡ tests_of (take place pairs) ++ word_test want word ∷ tests_of parts.0 =
     ap tests_of parts.1 ∙ map-append (λ w. word_test w.0 w.1) (take place pairs) ((want, word) ∷ parts.0) in
-    ap first tests
+    ap first_some tests
     ∙ (first_after (tests_of (take place pairs)) (word_test want word ∷ tests_of parts.0) h.pass
-    ∙ ap (λ t. first (t ∷ tests_of parts.0)) wrong)
+    ∙ ap (λ t. first_some (t ∷ tests_of parts.0)) wrong)
 
 -- all of them
 pub all_read : (expected : List Word) (words : List (List ℕ)) (numbers : List ℤ) (place : ℕ) → AreRead expected words numbers place
     → length expected ≡ length words → length words ≤ place
-    → (first (tests_of (zip expected words)) ≡ None) × (numbers ≡ map word_number (zip expected words))
+    → (first_some (tests_of (zip expected words)) ≡ None) × (numbers ≡ map word_number (zip expected words))
 all_read expected words numbers place h same all =
     let whole = take_all place (zip expected words) (omega (arith, zip_size expected words same)) in
-    (ap (λ l. first (tests_of l)) (sym whole) ∙ h.pass, h.are ∙ ap (map word_number) whole)
+    (ap (λ l. first_some (tests_of l)) (sym whole) ∙ h.pass, h.are ∙ ap (map word_number) whole)
 
 -- a number that is read fits into 64 bits
 pub word_value_fits : (want : Word) (word : List ℕ) (value : ℤ) → word_value want word ≡ Ok value → SFits w64 value
@@ -118,7 +118,7 @@ word_value_fits Marker word value e = whole_fits word value e
 word_value_fits (Corner base points) word value e = whole_fits word value e
 
 -- a fault in front is the first
-pub first_before : {A : Type 0} (xs ys : List (Option A)) (x : A) → first xs ≡ Some x → first (xs ++ ys) ≡ Some x
+pub first_before : {A : Type 0} (xs ys : List (Option A)) (x : A) → first_some xs ≡ Some x → first_some (xs ++ ys) ≡ Some x
 first_before [] ys x e = cc
 first_before (None ∷ xs) ys x e = first_before xs ys x e
 first_before (Some y ∷ xs) ys x e = e

@@ -12,7 +12,7 @@ use Rattle.text_scan.specs.Numbers.{whole_of}
 use Rattle.text_scan.specs.Rows.{Row, TextRows, text_rows}
 use Rattle.text_scan.specs.declared.faults.NumberFault.{NumberFault}
 use Rattle.tet_reader.specs.Headers.{node_numbers, ele_numbers, node_header_tests, ele_header_tests, number_at}
-use Rattle.tet_reader.specs.Tests.{first, unless, is_within, row_tests}
+use Rattle.tet_reader.specs.Tests.{first_some, unless, is_within, row_tests}
 use Rattle.tet_reader.specs.declared.words.Word.{Word}
 use Rattle.tet_reader.specs.declared.words.Word.TheVariants.{Number, Real, Marker, Corner}
 
@@ -53,7 +53,7 @@ row_corners base words = map (λ word. magnitude_or_zero (whole_of word) - base)
 
 -- The first fault of the tests of a line, with the line.
 abbrev pub line_fault : MeshFile → ℤ → ℕ → List (Option MeshWhat) → Option MeshFault
-line_fault file count line tests = option_map (fault_at file count line) (first tests)
+line_fault file count line tests = option_map (fault_at file count line) (first_some tests)
 
 -- The tests of a file, line by line: those of the header, those of each row after it by its index, and, at the last line,
 -- whether a row is missing.
@@ -76,7 +76,7 @@ node_tests last (header ∷ rows) =
     file_tests Node (number_at numbers 0) (node_header_tests header.words) (node_row_tests numbers (first_number rows)) last header rows
 
 abbrev pub node_fault : TextRows → Option MeshFault
-node_fault text = first (node_tests text.last_line text.rows)
+node_fault text = first_some (node_tests text.last_line text.rows)
 
 -- ELE FILE over n points, the first of which has the number `base`
 abbrev pub ele_row_tests : ℕ → ℕ → List ℤ → ℕ → ℕ → List (List ℕ) → List (Option MeshWhat)
@@ -91,7 +91,7 @@ ele_tests points base last (header ∷ rows) =
     file_tests Ele (number_at numbers 0) (ele_header_tests header.words) (ele_row_tests points base numbers (first_number rows)) last header rows
 
 abbrev pub ele_fault : ℕ → ℕ → TextRows → Option MeshFault
-ele_fault points base text = first (ele_tests points base text.last_line text.rows)
+ele_fault points base text = first_some (ele_tests points base text.last_line text.rows)
 
 -- WHOLE MESH
 -- The fault of a cell's line, where the condition holds.
@@ -106,14 +106,14 @@ whole_tests base rows =
 
 -- The ele file, then the whole mesh.
 abbrev pub cells_fault : ℕ → ℕ → TextRows → Option MeshFault
-cells_fault points base ele = first (ele_fault points base ele ∷ whole_tests base (drop 1 ele.rows))
+cells_fault points base ele = first_some (ele_fault points base ele ∷ whole_tests base (drop 1 ele.rows))
 
 -- BOTH FILES: the node file, then the ele file over its points, then the whole mesh. Where the node file has no fault, the
 -- number of its points is the number of rows after the header.
 abbrev pub mesh_fault : TextRows → TextRows → Option MeshFault
 mesh_fault node ele =
     let base : ℕ = first_number (drop 1 node.rows) in
-    first (node_fault node ∷ ele_fault (length (drop 1 node.rows)) base ele ∷ whole_tests base (drop 1 ele.rows))
+    first_some (node_fault node ∷ ele_fault (length (drop 1 node.rows)) base ele ∷ whole_tests base (drop 1 ele.rows))
 
 abbrev pub first_mesh_fault : List ℕ → List ℕ → Option MeshFault
 first_mesh_fault node ele = mesh_fault (text_rows node) (text_rows ele)

@@ -15,10 +15,10 @@ unless true fault = None
 unless false fault = Some fault
 
 -- The first fault in a list of tests.
-abbrev pub first : {A : Type 0} → List (Option A) → Option A
-first [] = None
-first (Some fault ∷ tests) = Some fault
-first (None ∷ tests) = first tests
+abbrev pub first_some : {A : Type 0} → List (Option A) → Option A
+first_some [] = None
+first_some (Some fault ∷ tests) = Some fault
+first_some (None ∷ tests) = first_some tests
 
 -- The number is at least `low` and at most `high`.
 abbrev pub is_within : ℕ → ℕ → ℤ → Bool

@@ -3,7 +3,7 @@ ghost use Rattle.std.specs.List.{list_all};
 ghost use Rattle.std.specs.Str.Parse.{signed_digits_value};
 ghost use Rattle.text_scan.specs.Numbers.{is_whole};
 ghost use Rattle.text_scan.specs.Rows.{row_at};
-ghost use Rattle.tet_reader.specs.Tests.{first, is_within as IsWithin};
+ghost use Rattle.tet_reader.specs.Tests.{first_some, is_within as IsWithin};
 ghost use Rattle.tet_reader.specs.Headers.{number_at, header_numbers, node_number_tests, ele_number_tests};
 ghost use Rattle.tet_reader.specs.Faults.{fault_at as FaultAt, first_number as FirstNumber, node_fault, ele_fault};
 ghost use Rattle.tet_reader.specs.Internal.RowReading.{HeadsNode, HeadsEle, ReadsHeader};
@@ -141,7 +141,7 @@ fn read_whole_numbers(rows: &Rows, numbers: &mut NumberRow) -> bool
 /// The first fault of the numbers of a node file's header.
 fn node_number_fault(numbers: &NumberRow) -> Option<MeshWhat>
     requires { length numbers.now ≡ 4 }
-    ensures { result ≡ first (node_number_tests numbers.now) }
+    ensures { result ≡ first_some (node_number_tests numbers.now) }
 {
     if numbers.at(0) < 0 {
         Some(MeshWhat::Header)
@@ -159,7 +159,7 @@ fn node_number_fault(numbers: &NumberRow) -> Option<MeshWhat>
 /// The first fault of the numbers of an ele file's header.
 fn ele_number_fault(numbers: &NumberRow) -> Option<MeshWhat>
     requires { length numbers.now ≡ 3 }
-    ensures { result ≡ first (ele_number_tests numbers.now) }
+    ensures { result ≡ first_some (ele_number_tests numbers.now) }
 {
     if numbers.at(0) < 0 {
         Some(MeshWhat::Header)

@@ -4,7 +4,7 @@ use Rattle.std.specs.Option.{option_map}
 use Rattle.liszt_base.specs.Corners.{along, repeats_earlier, is_third}
 use Rattle.liszt_base.specs.declared.answers.MeshWhat.{MeshWhat}
 use Rattle.liszt_base.specs.declared.answers.MeshWhat.TheVariants.{CellTwice, FaceShared}
-use Rattle.tet_reader.specs.Tests.{first}
+use Rattle.tet_reader.specs.Tests.{first_some}
 use Rattle.tet_reader.specs.declared.misfit.Misfit.{Misfit}
 
 -- The index of the first test that is true, counted from `place`.
@@ -19,6 +19,6 @@ misfit what place = record { place = place; what = what }
 
 -- The first cell that repeats an earlier one, or else the first that is the third with some face.
 abbrev pub first_misfit : List (List ℕ) → Option Misfit
-first_misfit cells = first
+first_misfit cells = first_some
     (option_map (misfit CellTwice) (first_true 0 (along repeats_earlier [] cells))
     ∷ option_map (misfit FaceShared) (first_true 0 (along is_third [] cells)) ∷ [])

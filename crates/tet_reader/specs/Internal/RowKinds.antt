@@ -4,7 +4,7 @@ use Rattle.std.specs.List.{zip}
 use Rattle.liszt_base.specs.declared.answers.MeshWhat.{MeshWhat}
 use Rattle.text_scan.specs.Numbers.{whole_of, millionths_of}
 use Rattle.text_scan.specs.declared.faults.NumberFault.{NumberFault}
-use Rattle.tet_reader.specs.Tests.{first, word_test, row_tests}
+use Rattle.tet_reader.specs.Tests.{first_some, word_test, row_tests}
 use Rattle.tet_reader.specs.Headers.{number_at}
 use Rattle.tet_reader.specs.Faults.{point_words, cell_words}
 use Rattle.tet_reader.specs.declared.words.Word.{Word}
@@ -40,14 +40,14 @@ ReadsWord expected word (Err what) = word_test expected word ≡ Some what
 -- The answer of a reader of a row's numbers: the numbers of its words where its tests pass, otherwise the first fault.
 abbrev pub ReadsRow : ℕ → ℕ → List Word → List (List ℕ) → List ℤ → Result (Unit {0}) MeshWhat → Type 0
 ReadsRow count place expected words numbers (Ok done) =
-    (first (row_tests count place expected words) ≡ None) × (numbers ≡ map word_number (zip expected words))
-ReadsRow count place expected words numbers (Err what) = first (row_tests count place expected words) ≡ Some what
+    (first_some (row_tests count place expected words) ≡ None) × (numbers ≡ map word_number (zip expected words))
+ReadsRow count place expected words numbers (Err what) = first_some (row_tests count place expected words) ≡ Some what
 
 -- The same for the words only, of a row that has the right number of words.
 abbrev pub ReadsWords : List Word → List (List ℕ) → List ℤ → Result (Unit {0}) MeshWhat → Type 0
 ReadsWords expected words numbers (Ok done) =
-    (first (map (λ w. word_test w.0 w.1) (zip expected words)) ≡ None) × (numbers ≡ map word_number (zip expected words))
-ReadsWords expected words numbers (Err what) = first (map (λ w. word_test w.0 w.1) (zip expected words)) ≡ Some what
+    (first_some (map (λ w. word_test w.0 w.1) (zip expected words)) ≡ None) × (numbers ≡ map word_number (zip expected words))
+ReadsWords expected words numbers (Err what) = first_some (map (λ w. word_test w.0 w.1) (zip expected words)) ≡ Some what
 
 -- The mark among the numbers of a point's row, 0 where there is none.
 abbrev pub mark_of : ℕ → ℕ → List ℤ → ℤ

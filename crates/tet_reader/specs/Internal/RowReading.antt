@@ -5,15 +5,15 @@ use Rattle.liszt_base.specs.declared.answers.MeshWhat.{MeshWhat}
 use Rattle.liszt_base.specs.declared.answers.Refused.{Refused}
 use Rattle.liszt_base.specs.declared.answers.Refused.TheVariants.{Fault, NoMemory as OutOfMemory}
 use Rattle.text_scan.specs.Rows.{Row, row_at}
-use Rattle.tet_reader.specs.Tests.{first}
+use Rattle.tet_reader.specs.Tests.{first_some}
 use Rattle.tet_reader.specs.Headers.{IsNodeHeader, IsEleHeader}
 use Rattle.tet_reader.specs.declared.headers.NodeHeader.{NodeHeader}
 use Rattle.tet_reader.specs.declared.headers.EleHeader.{EleHeader}
 
 -- The answer of a reader of one row: the item where no test finds a fault, otherwise the first fault of the tests.
 abbrev pub ReadsItem : {A : Type 0} → List (Option MeshWhat) → (A → Type 0) → Result A MeshWhat → Type 0
-ReadsItem tests IsItem (Ok item) = (first tests ≡ None) × IsItem item
-ReadsItem tests IsItem (Err what) = first tests ≡ Some what
+ReadsItem tests IsItem (Ok item) = (first_some tests ≡ None) × IsItem item
+ReadsItem tests IsItem (Err what) = first_some tests ≡ Some what
 
 -- The first row is this header.
 abbrev pub HeadsNode : List Row → NodeHeader → Type 0

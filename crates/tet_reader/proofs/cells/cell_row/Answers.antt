@@ -3,7 +3,7 @@ use Rattle.text_scan.specs.Rows.{row_at}
 use Rattle.liszt_base.specs.Corners.{are_different}
 use Rattle.liszt_base.specs.declared.answers.MeshWhat.TheVariants.{CornerTwice}
 use Rattle.tet_reader.specs.Faults.{cell_words, row_corners}
-use Rattle.tet_reader.specs.Tests.{first, unless, row_tests}
+use Rattle.tet_reader.specs.Tests.{first_some, unless, row_tests}
 use Rattle.tet_reader.proofs.CellRows.{holds, cell_count, corners_hold, cell_read}
 use Rattle.tet_reader.proofs.WordLists.{first_after, first_before}
 use Rattle.tet_reader.proofs.cells.cell_row.Goals as goal
@@ -35,7 +35,7 @@ returns-then-are_different c =
     let different = ap are_different (sym same) ∙ (sym c.are_different.ensures ∙ c.if-are_different.true) in
     let is = cell_read c.args.header.attributes c.args.points c.args.base number words c.read_row.new.numbers c.ranges.points.fits h different in
     let pass = first_after tests (unless (are_different (row_corners c.args.base words)) CornerTwice ∷ []) c.in-Ok.ensures.0
-    ∙ ap (λ b. first (unless b CornerTwice ∷ [])) different in
+    ∙ ap (λ b. first_some (unless b CornerTwice ∷ [])) different in
     (pass, rw c.cell_of-cell.ensures is)
 
 pub returns-else-are_different : goal.returns-else-are_different
@@ -49,7 +49,7 @@ returns-else-are_different c =
     let same = ap (λ q. q.corners) c.cell_of-cell.ensures ∙ corners.4 in
     let different = ap are_different (sym same) ∙ (sym c.are_different.ensures ∙ c.if-are_different.false) in
     first_after tests (unless (are_different (row_corners c.args.base words)) CornerTwice ∷ []) c.in-Ok.ensures.0
-    ∙ ap (λ b. first (unless b CornerTwice ∷ [])) different
+    ∙ ap (λ b. first_some (unless b CornerTwice ∷ [])) different
 
 pub returns-in-Err : goal.returns-in-Err
 returns-in-Err c =

@@ -1,5 +1,5 @@
 use Rattle.std.proofs.Common.{◌<◌, ◌+◌, subst, drop, length, arith, sym, ap, ◌∙◌, length-drop}
-use Rattle.tet_reader.specs.Tests.{first}
+use Rattle.tet_reader.specs.Tests.{first_some}
 use Rattle.tet_reader.specs.Points.{IsPointRow}
 use Rattle.tet_reader.proofs.Lists.{point_tests}
 use Rattle.tet_reader.proofs.RowReadingLemmas.{row_read, all_rows_read}
@@ -24,7 +24,7 @@ loop-place-preserved c =
     omega (arith, c.loop-place-test.true, c.len-place-end.ensures, length-drop 1 c.args.rows.now.rows) in
     let row = after_first c.args.rows.now.rows place c.requires.heads.0 in
     row_read tests IsRow c.args.first rows c.loop-place.points c.push.new.self place c.in-Ok.point inside c.loop-place.invariant
-    (ap (λ r. first (tests place r.words)) (sym row) ∙ c.in-Ok.ensures.0)
+    (ap (λ r. first_some (tests place r.words)) (sym row) ∙ c.in-Ok.ensures.0)
     (subst (λ r. IsRow (c.args.first + place) r.words c.in-Ok.point) row c.in-Ok.ensures.1) c.in_ok-push-in-Ok.ensures.ok
 
 pub returns : goal.returns
