@@ -67,13 +67,13 @@ fn stopping()
         ≡ trap_result ZeroDivide operator_place }
 {}
 
-/// `+=` wraps around, `-=` adds the negative number modulo 2^64, also of the least number, and `min=` takes the lesser one.
+/// `+=` wraps around, `-=` adds the negative number modulo 2^64, also of the least number, and `min=` gives the smaller one.
 fn assignments()
     ensures wraps { assigned_value (Fold Add) greatest_number greatest_number ≡ neg_ℤ (pos 2) }
-    ensures takes { assigned_value Less (pos 5) (pos 7) ≡ neg_ℤ (pos 2) }
-    ensures takes_least { assigned_value Less (pos 0) least_number ≡ least_number }
-    ensures takes_least_of_less { assigned_value Less (neg_ℤ (pos 1)) least_number
+    ensures subtracts { assigned_value Less (pos 5) (pos 7) ≡ neg_ℤ (pos 2) }
+    ensures subtracts_least { assigned_value Less (pos 0) least_number ≡ least_number }
+    ensures subtracts_least_of_less { assigned_value Less (neg_ℤ (pos 1)) least_number
         ≡ greatest_number }
-    ensures lesser { assigned_value (Fold Min) (pos 7) (pos 9) ≡ pos 7 }
+    ensures minimum { assigned_value (Fold Min) (pos 7) (pos 9) ≡ pos 7 }
     ensures replaces { assigned_value Set (pos 7) (pos 9) ≡ pos 9 }
 {}

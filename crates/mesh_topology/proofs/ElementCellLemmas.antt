@@ -139,8 +139,8 @@ pub record IsFirstOf (table : List (List ℕ)) (t ids : List ℕ) : Type 0 where
   pub is : get_or table (get_or ids 0 0) [] ≡ get_or t 0 0 ∷ get_or t 1 0 ∷ []
 
 first_edge_of_face : (table : List (List ℕ)) (t ids : List ℕ) → length t ≡ 3 → AreRanks table (combinations 2 t) ids → IsFirstOf table t ids
-first_edge_of_face table (a ∷ b ∷ c ∷ []) (i ∷ ids) l r = record { below = r.below i (contained_member (i ∷ ids) i (inl refl)); all = refl; is = ap (λ xs. get_or xs 0 []) r.are }
-first_edge_of_face table (a ∷ b ∷ c ∷ []) [] l r = absurd (let e = ap (λ xs. length xs) r.are in omega arith)
+first_edge_of_face table (a ∷ b ∷ c ∷ []) (i ∷ ids) l r = record { below = r.below i (contained_member (i ∷ ids) i (inl refl)); all = refl; is = ap (λ xs. get_or xs 0 []) r.sets_are }
+first_edge_of_face table (a ∷ b ∷ c ∷ []) [] l r = absurd (let e = ap (λ xs. length xs) r.sets_are in omega arith)
 first_edge_of_face table [] ids l r = absurd (omega arith)
 first_edge_of_face table (a ∷ []) ids l r = absurd (omega arith)
 first_edge_of_face table (a ∷ b ∷ []) ids l r = absurd (omega arith)

@@ -78,7 +78,7 @@ combinations_from_are size cells lists v some h l set = (there, back) where
   has id = is_in (get_or cells id []) v
 
   ids : get_or lists v [] ≡ filter has (numbers 0 (length cells))
-  ids = ap (λ xs. get_or xs v []) h.are ∙ transposed_at cells (length lists) v l
+  ids = ap (λ xs. get_or xs v []) h.transposed_cells ∙ transposed_at cells (length lists) v l
 
   there : Contains (combinations_from size cells v (get_or lists v [])) set → Contains (flat_map (combinations size) cells) set × (first_corner set ≡ v)
   there c =
@@ -93,7 +93,7 @@ combinations_from_are size cells lists v some h l set = (there, back) where
       let m = member_flattened (combinations size) cells set (member_contained (flat_map (combinations size) cells) set p.0) in
       let at = placed cells m.0 [] m.1 in
       let here : Member set (combinations size (get_or cells at.0 [])) = subst (λ row. Member set (combinations size row)) (sym at.2) m.2 in
-      let in_row = begins size v (get_or cells at.0 []) set some (h.can.ascending at.0 [] at.1) here p.1 in
+      let in_row = begins size v (get_or cells at.0 []) set some (h.transposable.ascending at.0 [] at.1) here p.1 in
       let id : Member at.0 (get_or lists v []) = subst (λ xs. Member at.0 xs) (sym ids) (member_kept has (numbers 0 (length cells)) at.0 (below_range (length cells) at.0 at.1) in_row) in
       let kept = member_kept (begins_with v) (combinations size (get_or cells at.0 [])) set here (eq-eqb (first_corner set) v p.1) in
       contained_member (combinations_from size cells v (get_or lists v [])) set (member_flat f (get_or lists v []) at.0 set id kept)
@@ -102,7 +102,7 @@ combinations_from_are size cells lists v some h l set = (there, back) where
 pub cells_of : (cells lists : List (List ℕ)) (v : ℕ) → AreVertexCells cells lists → v < length lists → All (λ id. id < length cells) (get_or lists v [])
 cells_of cells lists v h l k d m =
     let has = λ (id : ℕ). is_in (get_or cells id []) v in
-    let ids = ap (λ xs. get_or xs v []) h.are ∙ transposed_at cells (length lists) v l in
+    let ids = ap (λ xs. get_or xs v []) h.transposed_cells ∙ transposed_at cells (length lists) v l in
     let here = subst (λ xs. Member (get_or (get_or lists v []) k d) xs) ids (member_at (get_or lists v []) k d m) in
     range_below (length cells) (get_or (get_or lists v []) k d) (member_of_kept has (numbers 0 (length cells)) (get_or (get_or lists v []) k d) here).0
 
@@ -115,9 +115,9 @@ table_all size cells lists table v some h e so = record { ordered = so.ordered; 
       let m = member_flattened (combinations size) cells set (member_contained (flat_map (combinations size) cells) set c) in
       let at = placed cells m.0 [] m.1 in
       let here : Member set (combinations size (get_or cells at.0 [])) = subst (λ row. Member set (combinations size row)) (sym at.2) m.2 in
-      let in_row = begins size (first_corner set) (get_or cells at.0 []) set some (h.can.ascending at.0 [] at.1) here refl in
+      let in_row = begins size (first_corner set) (get_or cells at.0 []) set some (h.transposable.ascending at.0 [] at.1) here refl in
       let where_in = placed (get_or cells at.0 []) (first_corner set) 0 (in_member (get_or cells at.0 []) (first_corner set) in_row) in
-      let b = h.can.below at.0 [] at.1 where_in.0 0 where_in.1 in
+      let b = h.transposable.below at.0 [] at.1 where_in.0 0 where_in.1 in
       let f = where_in.2 in
       omega arith
 
@@ -125,7 +125,7 @@ table_all size cells lists table v some h e so = record { ordered = so.ordered; 
 pub cells_of_each : (cells lists : List (List ℕ)) (count : ℕ) → CanTranspose cells count → lists ≡ transposed cells count → count < 2 ^ 32 → AreVertexCells cells lists
 cells_of_each cells lists count can are few =
     let e : count ≡ length lists = sym (ap (λ xs. length xs) are ∙ transposed_length cells count) in
-    record { can = subst (λ n. CanTranspose cells n) e can; are = are ∙ ap (λ n. transposed cells n) e; few = subst (λ n. n < 2 ^ 32) e few }
+    record { transposable = subst (λ n. CanTranspose cells n) e can; transposed_cells = are ∙ ap (λ n. transposed cells n) e; few = subst (λ n. n < 2 ^ 32) e few }
 
 -- the same for the rows of all cells
 pub cells_of_vertices : (mesh : MeshLists) → IsSmallMesh mesh → (cells : List RawCell) (rows read lists : List (List ℕ)) (n : ℕ) → cells ≡ mesh.cells → AllZip AreSortedCorners cells rows → read ≡ rows
@@ -155,7 +155,7 @@ pairs_above cells lists v above h l is = record { ordered = ordered; members = �
   has id = is_in (get_or cells id []) v
 
   ids : get_or lists v [] ≡ filter has (numbers 0 (length cells))
-  ids = ap (λ xs. get_or xs v []) h.are ∙ transposed_at cells (length lists) v l
+  ids = ap (λ xs. get_or xs v []) h.transposed_cells ∙ transposed_at cells (length lists) v l
 
   of_cell : (id : ℕ) → Member id (get_or lists v []) → (id < length cells) × (is_in (get_or cells id []) v ≡ true)
   of_cell id m =
@@ -163,7 +163,7 @@ pairs_above cells lists v above h l is = record { ordered = ordered; members = �
       (range_below (length cells) id k.0, k.1)
 
   up : (id : ℕ) → id < length cells → IsAscending (get_or cells id [])
-  up id m = pairs_of (λ x y. x < y) (get_or cells id []) (h.can.ascending id [] m)
+  up id m = pairs_of (λ x y. x < y) (get_or cells id []) (h.transposable.ascending id [] m)
 
   ordered : AllPairs Before (map (pair v) above)
   ordered = all_pairs Before (map (pair v) above) (pairs_map (λ x y. x < y) Before (pair v) above (λ x y r. before_more v (x ∷ []) (y ∷ []) (before_first x y [] [] r)) (pairs_of (λ x y. x < y) above is.ascending))
@@ -240,7 +240,7 @@ triples_of_keys cells lists v keys h l is = record { ordered = ordered; members 
   has id = is_in (get_or cells id []) v
 
   ids : get_or lists v [] ≡ filter has (numbers 0 (length cells))
-  ids = ap (λ xs. get_or xs v []) h.are ∙ transposed_at cells (length lists) v l
+  ids = ap (λ xs. get_or xs v []) h.transposed_cells ∙ transposed_at cells (length lists) v l
 
   cell : (id : ℕ) → Member id (get_or lists v []) → id < length cells
   cell id m = range_below (length cells) id (member_of_kept has (numbers 0 (length cells)) id (subst (λ xs. Member id xs) ids m)).0
@@ -249,13 +249,13 @@ triples_of_keys cells lists v keys h l is = record { ordered = ordered; members 
   restored : (id : ℕ) → Member id (get_or lists v []) → (set : List ℕ) → Member set (g id) → triple v (key set) ≡ set
   restored id m set s =
       let k = member_of_kept (begins_with v) (combinations 3 (get_or cells id [])) set s in
-      let one = combination_is 3 (get_or cells id []) set (pairs_of (λ x y. x < y) (get_or cells id []) (h.can.ascending id [] (cell id m))) k.0 in
+      let one = combination_is 3 (get_or cells id []) set (pairs_of (λ x y. x < y) (get_or cells id []) (h.transposable.ascending id [] (cell id m))) k.0 in
       go set one.size_is one.inside (eqb-true (first_corner set) v k.1)
     where
       small : (x : ℕ) → Member x (get_or cells id []) → x < 2 ^ 32
       small x inside =
           let at = placed (get_or cells id []) x 0 inside in
-          let b = h.can.below id [] (cell id m) at.0 0 at.1 in
+          let b = h.transposable.below id [] (cell id m) at.0 0 at.1 in
           let e = at.2 in
           let few = h.few in
           omega arith

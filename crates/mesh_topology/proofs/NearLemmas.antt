@@ -184,12 +184,12 @@ ranks_kept mesh kind size h cs ids r ranks test same = is_filter test (count mes
 
   ascending : IsAscending ids
   ascending =
-      let p = subst (λ s. Pairs Before s) (sym ranks.are) (choices_ordered size cs r) in
+      let p = subst (λ s. Pairs Before s) (sym ranks.sets_are) (choices_ordered size cs r) in
       pairs_back (λ x y. x < y) Before (λ y. corners mesh kind y) ids (λ x y m n. lower_id mesh kind size h x y (below x m) (below y n)) p
 
   inside : (y : ℕ) → Member y ids → (y < count mesh kind) × (test y ≡ true)
   inside y m =
-      let here = subst (λ s. Member (corners mesh kind y) s) ranks.are (member_map (λ y. corners mesh kind y) ids y m) in
+      let here = subst (λ s. Member (corners mesh kind y) s) ranks.sets_are (member_map (λ y. corners mesh kind y) ids y m) in
       let c = combination_is size cs (corners mesh kind y) r here in
       (below y m, same y (below y m) ∙ includes_by cs (corners mesh kind y) c.inside)
 
@@ -198,7 +198,7 @@ ranks_kept mesh kind size h cs ids r ranks test same = is_filter test (count mes
       let e = corner_set_is mesh kind size h y l in
       let i : includes cs (corners mesh kind y) ≡ true = sym (same y l) ∙ t in
       let c = is_combination size cs (corners mesh kind y) r (record { size_is = e.size_is; ascending = e.ascending; inside = λ x m. included cs (corners mesh kind y) x i m }) in
-      let m = member_mapped (λ y. corners mesh kind y) ids (corners mesh kind y) (subst (λ s. Member (corners mesh kind y) s) (sym ranks.are) c) in
+      let m = member_mapped (λ y. corners mesh kind y) ids (corners mesh kind y) (subst (λ s. Member (corners mesh kind y) s) (sym ranks.sets_are) c) in
       subst (λ v. Member v ids) (one_id mesh kind size h m.0 y (below m.0 m.1) l m.2) m.1
 
 -- the vertices of an element are its corners in ascending order

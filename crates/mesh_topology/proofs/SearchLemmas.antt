@@ -133,7 +133,7 @@ ranks_step table sets i ids id l so below between_starts = record { length_is = 
 
 -- all sets
 pub ranks_all : (table sets : List (List ℕ)) (i : ℕ) (ids : List ℕ) → length sets ≤ i → AreRanksSoFar table sets i ids → AreRanks table sets ids
-ranks_all table sets i ids l so = record { below = below; are = ext_get_or [] (map (λ id. get_or table id []) ids) sets (length-map ids (λ id. get_or table id []) ∙ so.length_is) same } where
+ranks_all table sets i ids l so = record { below = below; sets_are = ext_get_or [] (map (λ id. get_or table id []) ids) sets (length-map ids (λ id. get_or table id []) ∙ so.length_is) same } where
   below : (id : ℕ) → Contains ids id → id < length table
   below id c = let k : c.0 < i = omega (arith, so.length_is, c.1) in subst (λ v. v < length table) (get_or_default ids c.0 0 id c.1 ∙ c.2) (so.at c.0 k).0
 

@@ -89,7 +89,7 @@ pub fn transpose_lists<const N: usize>(
     count: u32,
 ) -> Result<Rows<N>, NoMemory>
     requires width { N < 2 ^ 8 }
-    requires can { CanTranspose lists.now count }
+    requires transposable { CanTranspose lists.now count }
     requires few { All (λ row. length row ≤ N) (transposed lists.now count) }
     ensures { IfOk result (λ rows. rows ≡ transposed lists.now count) }
 {
@@ -102,7 +102,7 @@ pub fn transpose_lists<const N: usize>(
 
 /// Appends each of the two ids of a list to the row of the other; a list of one id has no effect.
 fn add_partners<const N: usize>(rows: &mut Rows<N>, list: &[u32])
-    requires two { length list.now ≤ 2 }
+    requires at_most_two { length list.now ≤ 2 }
     requires below { All (λ y. y < length rows.old) list.now }
     requires ascending { AllPairs (λ x y. x < y) list.now }
     requires capacity { All (λ y. length (slice_index_or rows.old y []) < N) list.now }
@@ -122,8 +122,8 @@ fn partners<const N: usize>(
     count: u32,
 ) -> Result<Rows<N>, NoMemory>
     requires width { N < 2 ^ 8 }
-    requires can { CanTranspose lists.now count }
-    requires two { All (λ list. length list ≤ 2) lists.now }
+    requires transposable { CanTranspose lists.now count }
+    requires at_most_two { All (λ list. length list ≤ 2) lists.now }
     requires few { All (λ row. length row ≤ N) (transposed lists.now count) }
     ensures { IfOk result (AreOthersSoFar lists.now count (length lists.now)) }
 {
@@ -141,8 +141,8 @@ pub fn sorted_partners(
     lists: &PlainLists<u32>,
     count: u32,
 ) -> Result<PlainLists<u32>, NoMemory>
-    requires can { CanTranspose lists.now count }
-    requires two { All (λ list. length list ≤ 2) lists.now }
+    requires transposable { CanTranspose lists.now count }
+    requires at_most_two { All (λ list. length list ≤ 2) lists.now }
     requires few { All (λ row. length row ≤ 4) (transposed lists.now count) }
     ensures { IfOk result (AreNeighbourSets (transposed lists.now count) lists.now count) }
 {

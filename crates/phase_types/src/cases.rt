@@ -13,7 +13,7 @@ ghost use Rattle.phase_types.specs.Walk.{check_fault, mode_of, scalar_mode_of};
 
 /// Each fault at its place; for a phase conflict also the place of the first access.
 fn faults()
-    ensures unknown_at { check_fault unknown_name ≡ fault NameUnknown 1 7 }
+    ensures unknown { check_fault unknown_name ≡ fault NameUnknown 1 7 }
     ensures twice { check_fault name_twice ≡ fault NameTwice 1 16 }
     ensures mismatch { check_fault truth_as_number ≡ fault TypeMismatch 1 11 }
     ensures third_operand { check_fault third_operand ≡ fault TypeMismatch 1 13 }

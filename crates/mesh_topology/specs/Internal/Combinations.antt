@@ -31,7 +31,7 @@ pub record AreSortedCorners (cell : RawCell) (row : List ℕ) : Type 0 where
 -- the indices of `sets` in a table
 pub record AreRanks (table sets : List (List ℕ)) (ids : List ℕ) : Type 0 where
   pub below : (id : ℕ) → Contains ids id → id < length table
-  pub are : map (λ id. slice_index_or table id []) ids ≡ sets
+  pub sets_are : map (λ id. slice_index_or table id []) ids ≡ sets
 
 -- a table contains all combinations of `size` of these corners
 abbrev pub HasCombinations : ℕ → List (List ℕ) → List ℕ → Type 0

@@ -17,8 +17,8 @@ pub record CanTranspose (rows : List (List ℕ)) (count : ℕ) : Type 0 where
 
 -- for each vertex the indices of the cells that have it
 pub record AreVertexCells (cells lists : List (List ℕ)) : Type 0 where
-  pub can : CanTranspose cells (length lists)
-  pub are : lists ≡ transposed cells (length lists)
+  pub transposable : CanTranspose cells (length lists)
+  pub transposed_cells : lists ≡ transposed cells (length lists)
   pub few : length lists < 2 ^ 32
 
 -- the combinations of the rows `ids` that begin with `first`

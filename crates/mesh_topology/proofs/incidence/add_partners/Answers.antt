@@ -5,7 +5,7 @@ use Rattle.mesh_topology.proofs.LookupLemmas.{two_listed}
 use Rattle.mesh_topology.proofs.incidence.add_partners.Goals as goal
 
 pub returns-else-list-eq2 : goal.returns-else-list-eq2
-returns-else-list-eq2 g c = joined_none c.args.list.now c.args.rows.now (omega (arith, c.requires.two, c.if-list-eq2.false))
+returns-else-list-eq2 g c = joined_none c.args.list.now c.args.rows.now (omega (arith, c.requires.at_most_two, c.if-list-eq2.false))
 
 pub returns-then-list-eq2 : goal.returns-then-list-eq2
 returns-then-list-eq2 g c =

@@ -13,10 +13,10 @@ add_partners-requires g c =
     let list = c.of.result.now in
     let is = get_or_from_slice_get lists c.loop-id.id list [] c.of.ensures in
     let l : c.loop-id.id < length lists = omega (arith, c.len-id-end.ensures) in
-    let below = subst (λ r. All (λ y. y < c.args.count) r) is (c.requires.can.below c.loop-id.id [] l) in
-    let ascending = subst (λ r. AllPairs (λ x y. x < y) r) is (c.requires.can.ascending c.loop-id.id [] l) in
-    let two = subst (λ r. length r ≤ 2) is (c.requires.two c.loop-id.id [] l) in
-    let capacity = others_for lists c.args.count g.row.N c.loop-id.id list c.loop-id.rows c.loop-id.invariant c.requires.two c.requires.few l is below in
+    let below = subst (λ r. All (λ y. y < c.args.count) r) is (c.requires.transposable.below c.loop-id.id [] l) in
+    let ascending = subst (λ r. AllPairs (λ x y. x < y) r) is (c.requires.transposable.ascending c.loop-id.id [] l) in
+    let two = subst (λ r. length r ≤ 2) is (c.requires.at_most_two c.loop-id.id [] l) in
+    let capacity = others_for lists c.args.count g.row.N c.loop-id.id list c.loop-id.rows c.loop-id.invariant c.requires.at_most_two c.requires.few l is below in
     (omega arith, (two, (λ k d m. omega (arith, below k d m, c.loop-id.invariant.length_is), (ascending, capacity))))
 
 pub loop-id-preserved : goal.loop-id-preserved

@@ -13,8 +13,8 @@ append_to_rows-requires g c =
     let list = c.of.result.now in
     let is = get_or_from_slice_get lists c.loop-id.id list [] c.of.ensures in
     let l : c.loop-id.id < length lists = omega (arith, c.len-id-end.ensures) in
-    let below = subst (λ r. All (λ y. y < c.args.count) r) is (c.requires.can.below c.loop-id.id [] l) in
-    let ascending = subst (λ r. AllPairs (λ x y. x < y) r) is (c.requires.can.ascending c.loop-id.id [] l) in
+    let below = subst (λ r. All (λ y. y < c.args.count) r) is (c.requires.transposable.below c.loop-id.id [] l) in
+    let ascending = subst (λ r. AllPairs (λ x y. x < y) r) is (c.requires.transposable.ascending c.loop-id.id [] l) in
     let capacity = rows_for lists c.args.count g.row.N c.loop-id.id list c.loop-id.rows c.loop-id.invariant c.requires.few l is below in
     (omega arith, (λ k d m. omega (arith, below k d m, c.loop-id.invariant.length_is), (ascending, capacity)))
 

@@ -66,14 +66,14 @@ transpose_lists-requires-2 c =
     let few = subst (λ t. All (λ row. length row ≤ 4) t) (sym is) (few_faces_near mesh c.requires.small.is_mesh) in
     (omega arith, (omega arith, (can_transpose mesh c.requires.small Face Cell c.args.lower.now.face_cells (length c.cells.result.now) c.requires.lower.face_cells cells, few)))
 
-pub sorted_partners-requires-clause-can : goal.sorted_partners-requires-clause-can
-sorted_partners-requires-clause-can c =
+pub sorted_partners-requires-clause-transposable : goal.sorted_partners-requires-clause-transposable
+sorted_partners-requires-clause-transposable c =
     let mesh = c.args.raw.now in
     let cells = ap (λ cs. length cs) c.cells.ensures ∙ sym (cell_count mesh) in
     can_transpose mesh c.requires.small Face Cell c.args.lower.now.face_cells (length c.cells.result.now) c.requires.lower.face_cells cells
 
-pub sorted_partners-requires-clause-two : goal.sorted_partners-requires-clause-two
-sorted_partners-requires-clause-two c = subst (λ t. All (λ row. length row ≤ 2) t) (sym c.requires.lower.face_cells) (few_sides c.args.raw.now c.requires.small.is_mesh)
+pub sorted_partners-requires-clause-at_most_two : goal.sorted_partners-requires-clause-at_most_two
+sorted_partners-requires-clause-at_most_two c = subst (λ t. All (λ row. length row ≤ 2) t) (sym c.requires.lower.face_cells) (few_sides c.args.raw.now c.requires.small.is_mesh)
 
 pub sorted_partners-requires-clause-few : goal.sorted_partners-requires-clause-few
 sorted_partners-requires-clause-few c =
