@@ -12,7 +12,7 @@ use Rattle.command_words.proofs.MatchRows.{one_value}
 abbrev pub between : Held → ℕ → Walk
 between h position = record { held = h; waiting = idle; position = position; is_trailing = false; stopped = None }
 
--- behind an option that waits for its value
+-- after an option that waits for its value
 abbrev pub behind : Text → Held → ℕ → Walk
 behind id h position = record { held = h; waiting = option id; position = position; is_trailing = false; stopped = None }
 

@@ -37,7 +37,7 @@ pub record Good (s : Shape) (turns : Option Text) (plain : List Text) (h : Held)
   pub holds : Holds values (settled_rows s.rules h.pending h.rows)
   pub are : Are turns plain values
 
--- the option waits for its value behind these plain words
+-- the option waits for its value after these plain words
 pub record Waits (plain : List Text) (h : Held) : Type 0 where
   pub pending : h.pending ≡ Some (codes "turns", [])
   pub values : Text → Option Text
@@ -63,7 +63,7 @@ pub record Reads (s : Shape) (w : Walk) (words : List Text) (command : SeqComman
   pub passes : walk_passes s [] w words ≡ true
   pub ends : Ends s (fold (walked s.rules []) w words).held command
 
--- words that name a command behind what was taken so far are read
+-- words that name a command after what was taken so far are read
 abbrev pub Takes : Shape → SeqCommand → List Text → Type 0
 Takes s command words = (pending_option : Option OptionName) (turns : Option Text) (plain : List Text) (h : Held) → Stands s pending_option turns plain h
     → command_after pending_option (turns_options turns) plain words ≡ Some command → Reads s (standing pending_option h (suc (length plain))) words command
@@ -90,7 +90,7 @@ good_pending s id new long index turns plain rows skip values by none holds are 
       are = are;
     }
 
--- the command of what was taken so far and of the words behind it
+-- the command of what was taken so far and of the words after it
 abbrev command_with : Option Text → List Text → Option SortedWords → Option SeqCommand
 command_with turns plain = option_and_then (λ sorted. command_in (prepend_words (turns_options turns) plain sorted))
 

@@ -116,7 +116,7 @@ pub found : (tree : Main) (s : Simple) → simple_at tree ≡ Some s → IsSimpl
 found (item i (item j no_item)) s e = pair_shape i j (field_declaration i) (loop_addition j) s refl refl e
 found _ s e = absurd cc
 
--- Reading doesn't see places.
+-- Reading does not see places.
 field_bare : (i : MainItem) → field_declaration (bare_item i) ≡ field_declaration i
 field_bare (MainField place name at Cell (Number there value)) = refl
 field_bare _ = refl

@@ -6,7 +6,7 @@ abbrev pub cut : {A : Type 0} → ℕ → List A → List ℕ → List (List A)
 cut start items [] = []
 cut start items (end ∷ ends) = take (end - start) (drop start items) ∷ cut end items ends
 
--- the places don't fall, and the last of them is the length of the list
+-- the places do not fall, and the last of them is the length of the list
 abbrev pub AreEnds : ℕ → List ℕ → ℕ → Type 0
 AreEnds start [] total = start ≡ total
 AreEnds start (end ∷ ends) total = (start ≤ end) × AreEnds end ends total

@@ -60,7 +60,7 @@ file_at_match fs i name inside same before =
     ap (λ (l : List HeldFile). file (files_of l) name) (drop_at fs i inside) ∙ first ∙ rw is refl in
     record { inside = inside; contents = rw same (sym before ∙ here) }
 
--- the file at place i hasn't the name
+-- the file at index i does not have the name
 pub file_after_mismatch : (fs : List HeldFile) (i : ℕ) (name : List ℕ) → i < length fs → name_at fs i ≢ name → file (files_of (drop i fs)) name ≡ file (files_of fs) name
     → file (files_of (drop (i + 1) fs)) name ≡ file (files_of fs) name
 file_after_mismatch fs i name inside other before =

@@ -9,7 +9,7 @@ use Rattle.std.proofs.lemmas.Bool.Decides.{nat_tests}
 use Rattle.std.proofs.lemmas.Slice.Eq.{bytes_eq-Decides}
 use Rattle.liszt_lexer.specs.Lexer.{is_blank, is_letter}
 
--- a test that can't pass fails
+-- a test that cannot pass fails
 pub not_true_is_false : (b : Bool) → (b ≡ true → ⊥) → b ≡ false
 not_true_is_false true h = absurd (h refl)
 not_true_is_false false h = refl
@@ -58,7 +58,7 @@ digit_is b e = (grind (arith, nat_tests), grind (arith, nat_tests), grind (arith
 pub letter_is : (b : ℕ) → is_letter b ≡ true → (is_blank b ≡ false) × (is_ascii_digit b ≡ false) × ((b == 47) ≡ false)
 letter_is b e = (grind (arith, nat_tests), grind (arith, nat_tests), grind (arith, nat_tests))
 
--- the front that passes a test passes it, and a longer one doesn't
+-- the front that passes a test passes it, and a longer one does not
 pub prefix_passes : (p : ℕ → Bool) (xs : List ℕ) → list_all p (take (prefix_len p xs) xs) ≡ true
 prefix_passes p [] = refl
 prefix_passes p (x ∷ xs) = go (p x) refl (prefix_passes p xs) where

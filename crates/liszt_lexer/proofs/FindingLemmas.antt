@@ -1,4 +1,4 @@
--- The tokens of a text are spelled in it, one behind the other.
+-- The tokens of a text are spelled in it, one after the other.
 use Rattle.std.proofs.Common.{◌≡◌, ℕ, ◌+◌, ◌-◌, ◌<◌, ◌≤◌, cond, Bool, true, false, Option, Some, None, Result, Ok, Err, List, []}
 use Rattle.std.proofs.Common.{◌∷◌, ◌++◌, length, map, take, drop, nat_lt, refl, sym, ap, subst, ◌∙◌, append_assoc, length-append, arith}
 use Rattle.std.specs.List.{concat, cons_option, enumerate_from, All, AllPairs, AllByRecursion}
@@ -84,7 +84,7 @@ few_with_limit n (Ok token ∷ fs) tokens le e =
     let big : ProgramFault = record { what = Big; place = token.place; first = None } in
     few_step n token big (map with_limit (enumerate_from (n + 1) fs)) tokens (nat_lt n token_limit) refl e (few_with_limit (n + 1) fs)
 
--- the bytes between a front and what is behind them
+-- the bytes between a front and what is after them
 pub bytes_between : (front bytes rest : List ℕ)
     → take (length front + length bytes - length front) (drop (length front) (front ++ (bytes ++ rest))) ≡ bytes
 bytes_between front bytes rest =
@@ -99,12 +99,12 @@ spelled what front bytes rest kind some is =
     omega (arith, length-append front (bytes ++ rest), length-append bytes rest) in
     (omega arith, within, ap place_after (sym (take-append_seam front (bytes ++ rest))), ap what (bytes_between front bytes rest) ∙ is)
 
--- Tokens that are spelled in the text, each from behind the one before on.
+-- Tokens that are spelled in the text, each after the previous one.
 abbrev AreLaidOut : Reading → List ℕ → ℕ → List TokenOf → Type 0
 AreLaidOut what text from [] = Unit {0}
 AreLaidOut what text from (t ∷ ts) = IsSpelledBy what text t × (from ≤ t.start) × AreLaidOut what text t.end ts
 
--- they lie behind every earlier place too
+-- they lie after every earlier place too
 laid_out_lower : (what : Reading) (text : List ℕ) (from to : ℕ) (ts : List TokenOf) → from ≤ to → AreLaidOut what text to ts
     → AreLaidOut what text from ts
 laid_out_lower what text from to [] le h = tt
@@ -158,7 +158,7 @@ lies_before what text t u here there le =
     subst (λ (p : Place). IsBefore p (place_after (take u.start text))) (sym here.2) places in
     (le, subst (λ (p : Place). IsBefore t.place p) (sym there.2) first)
 
--- all that are laid out behind a token lie behind it
+-- all that are laid out after a token lie after it
 all_after : (what : Reading) (text : List ℕ) (t : TokenOf) (from : ℕ) (ts : List TokenOf) → IsSpelledBy what text t → t.end ≤ from
     → AreLaidOut what text from ts → All (LiesBefore t) ts
 all_after what text t from [] here le h = All-nil (LiesBefore t)
@@ -183,6 +183,6 @@ tokens_laid_out text tokens e =
 pub all_tokens_spelled : (text : List ℕ) (tokens : List TokenOf) → tokens_of text ≡ Ok tokens → AllByRecursion (IsSpelledIn text) tokens
 all_tokens_spelled text tokens e = all_spelled piece text 0 tokens (tokens_laid_out text tokens e)
 
--- the tokens of a text lie one behind the other
+-- the tokens of a text lie one after the other
 pub tokens_follow : (text : List ℕ) (tokens : List TokenOf) → tokens_of text ≡ Ok tokens → AllPairs LiesBefore tokens
 tokens_follow text tokens e = all_pairs piece text 0 tokens (tokens_laid_out text tokens e)

@@ -104,7 +104,7 @@ no_number b bytes digit = rw (digit, and_false (nat_lt 0 (length (b ∷ bytes)))
 no_name : (b : ℕ) (bytes : List ℕ) → is_letter b ≡ false → name_token (b ∷ bytes) ≡ None
 no_name b bytes letter = rw letter refl
 
--- nothing where each of the six is nothing, and the only one that isn't
+-- nothing where each of the six is nothing, and the only one that is not
 all_none : (a b c d e f : Option Piece) → a ≡ None → b ≡ None → c ≡ None → d ≡ None → e ≡ None → f ≡ None
     → option_or a (option_or b (option_or c (option_or d (option_or e f)))) ≡ None
 all_none a b c d e f ha hb hc hd he hf = rw (ha, hb, hc, hd, he, hf) refl
@@ -148,7 +148,7 @@ leading_blank (b ∷ bytes) some blank =
     is_leading_piece (b ∷ bytes) 1 Gap (omega arith) (omega arith) here
     (after_first_piece b bytes 1 (λ rest lt le. blank_alone b (take rest bytes) (omega (arith, length-take-le rest bytes le)) blank))
 
--- a first byte that passes and those behind it
+-- a first byte that passes and those after it
 first_passes : (p : ℕ → Bool) (b : ℕ) (bytes : List ℕ) → p b ≡ true → prefix_len p (b ∷ bytes) ≡ 1 + prefix_len p bytes
 first_passes p b bytes is = rw is refl
 

@@ -77,14 +77,14 @@ at_most test (suc n) m some le = go (test (suc n)) (at_most test n m some (omega
   go true h = le
   go false h = h
 
--- one piece and what is behind it
+-- one piece and what is after it
 one_more_piece : (text : List ℕ) (size : ℕ) (more : List (List ℕ)) → size ≡ unwrap_or (longest_size text) 1 → size ≤ length text
     → AreLongest (drop size text) more → AreLongest text (take size text ∷ more)
 one_more_piece text size more is within h =
     let same = length-take-le size text within in
     (same ∙ is, sym (ap (λ n. take n text) same), subst (λ (n : ℕ). AreLongest (drop n text) more) (sym same) h)
 
--- what is behind at least one byte
+-- what is after at least one byte
 after_one_piece : (b : ℕ) (bytes : List ℕ) (size : ℕ) (rest : ℕ → List (List ℕ)) → 1 ≤ size
     → ((k : ℕ) → AreLongest (drop k bytes) (rest k)) → AreLongest (drop size (b ∷ bytes)) (rest (size - 1))
 after_one_piece b bytes zero rest some h = absurd (omega arith)
@@ -92,7 +92,7 @@ after_one_piece b bytes (suc n) rest some h =
     let same : n ≡ suc n - 1 = omega arith in
     subst (λ (k : ℕ). AreLongest (drop n bytes) (rest k)) same (h n)
 
--- the pieces behind the first k bytes are the longest
+-- the pieces after the first k bytes are the longest
 longest_size_after : (bytes : List ℕ) (k : ℕ) → AreLongest (drop k bytes) (pieces_after k bytes)
 longest_size_after [] k = drop-nil k
 longest_size_after (b ∷ bytes) (suc k) = longest_size_after bytes k

@@ -1,4 +1,4 @@
--- The place behind a longer front of a text comes after the place behind a shorter one.
+-- The place after a longer prefix of a text is after the place after a shorter one.
 use Rattle.std.proofs.Common.{◌≡◌, ℕ, zero, suc, ◌+◌, ◌-◌, ◌<◌, ◌≤◌, ◌⊎◌, inl, inr, not, cond, Bool, true, false, List, [], ◌∷◌, ◌++◌}
 use Rattle.std.proofs.Common.{length, reverse, get_or, take, drop, refl, sym, ap, subst, ◌∙◌, length-drop, length-take, arith}
 use Rattle.std.specs.List.{count_by, after_last, prefix_len}
@@ -8,7 +8,7 @@ use Rattle.liszt_base.specs.declared.answers.Place.{Place}
 use Rattle.liszt_lexer.specs.Lexer.{is_line_feed, place_after, IsBefore}
 use Rattle.liszt_lexer.specs.Internal.Remaining.{place_after_byte}
 
--- how many bytes stand behind the last LF
+-- the number of bytes after the last LF
 length_after : (front : List ℕ) → length (after_last is_line_feed front) ≡ prefix_len (λ b. not (is_line_feed b)) (reverse front)
 length_after front =
     let n = prefix_len (λ b. not (is_line_feed b)) (reverse front) in
@@ -26,7 +26,7 @@ one_more front b e =
     ap (prefix_len (λ b. not (is_line_feed b))) turned ∙ here in
     omega (arith, length_after (front ++ b ∷ []), length_after front)
 
--- behind an LF there is nothing yet
+-- after an LF there is nothing yet
 none_more : (front : List ℕ) (b : ℕ) → is_line_feed b ≡ true → length (after_last is_line_feed (front ++ b ∷ [])) ≡ 0
 none_more front b e =
     let turned : reverse (front ++ b ∷ []) ≡ b ∷ reverse front = reverse-append front (b ∷ []) in
@@ -41,7 +41,7 @@ before_transitive p q r (inl a) (inr b) = inl (omega (arith, b.0))
 before_transitive p q r (inr a) (inl b) = inl (omega (arith, a.0))
 before_transitive p q r (inr a) (inr b) = inr (omega (arith, a.0, b.0), omega (arith, a.1, b.1))
 
--- the place behind one byte more comes after
+-- the place after one more byte is later
 place_step : (text : List ℕ) (i : ℕ) → i < length text → IsBefore (place_after (take i text)) (place_after (take (i + 1) text))
 place_step text i within = go (is_line_feed (get_or text i 0)) refl where
   go : (test : Bool) → is_line_feed (get_or text i 0) ≡ test → IsBefore (place_after (take i text)) (place_after (take (i + 1) text))
@@ -53,7 +53,7 @@ place_step text i within = go (is_line_feed (get_or text i 0)) refl where
       ap (λ l. length (after_last is_line_feed l)) (take_more text i 0 within) ∙ one_more (take i text) (get_or text i 0) e in
       inr (omega (arith, lines), omega (arith, cols))
 
--- a place is before the one behind the next byte where it is before this one, or is this one
+-- a place is before the one after the next byte where it is before this one, or is this one
 before_or_same : (text : List ℕ) (i j : ℕ) → j < length text → (i ≡ j) ⊎ IsBefore (place_after (take i text)) (place_after (take j text))
     → IsBefore (place_after (take i text)) (place_after (take (suc j) text))
 before_or_same text i j within so_far =
@@ -71,7 +71,7 @@ before_or_same text i j within so_far =
 same_or_less : (i j : ℕ) → i < suc j → (i ≡ j) ⊎ (i < j)
 same_or_less i j lt = grind arith
 
--- the place behind more bytes of a text comes after
+-- the place after more bytes of a text is later
 pub ascends : (text : List ℕ) (i j : ℕ) → i < j → j ≤ length text → IsBefore (place_after (take i text)) (place_after (take j text))
 ascends text i zero lt within = absurd (omega arith)
 ascends text i (suc j) lt within =
@@ -87,7 +87,7 @@ same_place : (line line' col col' : ℕ) → line ≡ line' → col ≡ col'
     → ◌≡◌ {A = Place} (record { line = line; col = col }) (record { line = line'; col = col' })
 same_place line line' col col' p q = λ i. record { line = p i; col = q i }
 
--- the place past the next byte is the one behind the bytes up to there
+-- the place past the next byte is the one after the bytes up to there
 pub past_next : (text : List ℕ) (i : ℕ) → i < length text
     → place_after_byte (place_after (take i text)) (get_or text i 0) ≡ place_after (take (i + 1) text)
 past_next text i within = go (is_line_feed (get_or text i 0)) refl where

@@ -22,13 +22,13 @@ use Rattle.liszt_lexer.specs.Lexer.{Piece, Gap, Token, Fault, Finding, finding, 
 use Rattle.liszt_lexer.specs.Lexer.{with_limit, with_limit_at, prepend, tokens_or_first_fault, tokens_of, end_of}
 use Rattle.liszt_lexer.specs.Internal.Remaining.{IsAt, finding_at, append_finding, append_optional, Appends, prepend_all, remaining_result}
 
--- PIECES. Behind the first bytes are the pieces of what is leading_piece_at.
+-- PIECES. After the first bytes are the pieces of the rest.
 pieces_after_is : (k : ℕ) (bytes : List ℕ) → pieces_after k bytes ≡ pieces_after 0 (drop k bytes)
 pieces_after_is zero bytes = refl
 pieces_after_is (suc k) [] = refl
 pieces_after_is (suc k) (b ∷ bytes) = pieces_after_is k bytes
 
--- and so they are behind a piece
+-- and so they are after a piece
 pieces_after_cut : (size b : ℕ) (bytes : List ℕ) → 1 ≤ size → pieces_after (size - 1) bytes ≡ pieces_after 0 (drop size (b ∷ bytes))
 pieces_after_cut zero b bytes some = absurd (omega arith)
 pieces_after_cut (suc k) b bytes some =
@@ -123,7 +123,7 @@ one_fault (Some f) rest tokens fault e = go (with_limit_at (length tokens) f) e 
   go (Ok token) e = cc
   go (Err other) e = e
 
--- THE REST OF A TEXT gives the same behind one piece more,
+-- THE REST OF A TEXT gives the same after one piece more,
 pub remaining_step : (text : List ℕ) (cursor : Cursor) (size : ℕ) (is : Piece) (tokens new : List TokenOf) → IsAt text cursor
     → IsLeadingPiece (drop cursor.passed text) size is → append_optional tokens (finding_at cursor size is) ≡ Ok new
     → remaining_result text cursor.passed tokens ≡ remaining_result text (cursor.passed + size) new
@@ -143,7 +143,7 @@ fault_of_piece text cursor size is tokens fault at front e =
     ap (λ (fs : List Finding). prepend_all tokens (tokens_or_first_fault (map with_limit (enumerate_from (length tokens) fs))))
     (first_finding text cursor size is at front) ∙ one_fault (finding_at cursor size is) rest tokens fault e
 
--- and so the call comes to what is told of it,
+-- and so the call has its answer,
 pub fault_at_cursor : (A : Type 0) (text : List ℕ) (cursor : Cursor) (size : ℕ) (is : Piece) (tokens new : List TokenOf) (e : Refused ProgramFault)
     → remaining_result text cursor.passed tokens ≡ tokens_of text → IsAt text cursor → IsLeadingPiece (drop cursor.passed text) size is
     → Appends {A = A} (append_optional tokens (finding_at cursor size is)) (Err e) new → Gives (lexed_text text) (Err e)

@@ -1,4 +1,4 @@
--- A text that is cut into gaps and these tokens has them as its tokens, where they aren't too many.
+-- A text that is cut into gaps and these tokens has them as its tokens, where they are not too many.
 use Rattle.std.proofs.Common.{◌≡◌, ℕ, suc, ◌+◌, ◌-◌, cond, Bool, true, false, Option, Some, None, Result, Ok, Err, List, []}
 use Rattle.std.proofs.Common.{◌∷◌, ◌++◌, length, map, take, codes, nat_lt, refl, sym, ap, subst, ◌∙◌, append_assoc, arith}
 use Rattle.std.specs.List.{concat, cons_option, enumerate_from}
@@ -77,7 +77,7 @@ pub spells_token : (bytes rest : List ℕ) (kind : TokenKind) (words : List Spel
     → Spells (bytes ++ rest) (record { kind = kind; bytes = bytes } ∷ words)
 spells_token bytes rest kind words is stops more = spells_front bytes rest kind words (token_stops bytes rest kind is.is stops) is more
 
--- `-`, `!` and `(` before bytes that don't begin with `=`
+-- `-`, `!` and `(` before bytes that do not begin with `=`
 pub spells_minus : (rest : List ℕ) (words : List Spelling) → begins_well rest ≡ true → Spells rest words
     → Spells (45 ∷ rest) (record { kind = Symbol 17; bytes = codes "-" } ∷ words)
 spells_minus rest words begins more =
@@ -92,7 +92,7 @@ pub spells_bracket : (rest : List ℕ) (words : List Spelling) → begins_well r
 spells_bracket rest words begins more =
     spells_front (codes "(") rest (Symbol 0) words (leading_bracket rest begins) (record { is = refl }) more
 
--- WHAT THE TEXT COMES TO: these tokens, or one token too many
+-- WHAT THE TEXT RESULTS IN: these tokens, or one token too many
 abbrev pub ResultsIn : List ℕ → List Spelling → Result (List TokenOf) ProgramFault → Type 0
 ResultsIn text words (Ok tokens) = map (spelling text) tokens ≡ words
 ResultsIn text words (Err fault) = fault.what ≡ Big

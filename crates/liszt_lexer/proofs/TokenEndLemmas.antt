@@ -69,7 +69,7 @@ abbrev is_mark_like : List ℕ → Bool
 is_mark_like (b ∷ []) = true
 is_mark_like bytes = not (list_any ends_token bytes)
 
--- Two bytes or more, one of them behind the first a byte that ends tokens, are no token.
+-- Two bytes or more, one of them after the first a byte that ends tokens, are no token.
 no_token : (b c : ℕ) (bytes : List ℕ) → list_any ends_token (c ∷ bytes) ≡ true → gap (b ∷ c ∷ bytes) ≡ None → piece (b ∷ c ∷ bytes) ≡ None
 no_token b c bytes ends gap' =
     let whole : list_any ends_token (b ∷ c ∷ bytes) ≡ true = or_right (ends_token b) (list_any ends_token (c ∷ bytes)) ends in
@@ -105,7 +105,7 @@ no_slashes b c bytes kind e = not_true_is_false ((b == 47) && (c == 47)) (λ h.
 no_comment : (b c : ℕ) (bytes : List ℕ) → ((b == 47) && (c == 47)) ≡ false → gap (b ∷ c ∷ bytes) ≡ None
 no_comment b c bytes e = rw e refl
 
--- A token and a byte that ends tokens behind it are no piece, whatever follows.
+-- A token and a byte that ends tokens after it are no piece, whatever follows.
 no_longer : (bytes : List ℕ) (kind : TokenKind) (b : ℕ) (more : List ℕ) → piece bytes ≡ Some (Token kind) → ends_token b ≡ true
     → piece (bytes ++ b ∷ more) ≡ None
 no_longer [] kind b more is ends = absurd cc
@@ -146,8 +146,8 @@ token_stops bytes (b ∷ rest) kind is stops =
       longer zero some le = absurd (omega arith)
       longer (suc n) some le = no_longer bytes kind b (take n rest) is stops
 
--- `(`, `-` and `!` are the longest piece before bytes that don't begin with `=`.
--- the text doesn't begin with `=`
+-- `(`, `-` and `!` are the longest piece before bytes that do not begin with `=`.
+-- the text does not begin with `=`
 abbrev pub begins_well : List ℕ → Bool
 begins_well [] = false
 begins_well (b ∷ bytes) = not (b == 61)
@@ -279,7 +279,7 @@ name_begins bytes e = has_form bytes (Token Name) e
 pub number_is_small : (bytes : List ℕ) (value : ℤ) → piece bytes ≡ Some (Token (Number value)) → IsSmall value
 number_is_small bytes value e = has_form bytes (Token (Number value)) e
 
--- THE DIGITS of such a number are a token of that value, and don't begin with `=`.
+-- THE DIGITS of such a number are a token of that value, and do not begin with `=`.
 same_test : (bytes : List ℕ) → list_all is_ascii_digit bytes ≡ all_ascii_digits bytes
 same_test [] = refl
 same_test (b ∷ bytes) = ap (λ t. is_ascii_digit b && t) (same_test bytes)

@@ -1,4 +1,4 @@
--- The productions of comparisons and of what stands alone, as readers one behind the other.
+-- The productions of comparisons and of primary expressions, as readers one after the other.
 use Rattle.std.proofs.Common.{◌≡◌, ℤ, Option, Some, None, List, [], ◌∷◌, refl, sym, ap, subst, ◌∙◌, arith}
 use Rattle.std.specs.Prelude.{⊤, pos}
 use Rattle.liszt_lexer.specs.declared.token.TokenKind.{TokenKind}
@@ -53,7 +53,7 @@ first_open ts left e (bracketed o c h d h') = h
 pub arguments_lawful : Lawful arguments
 arguments_lawful = maybe_lawful (Is open_bracket) brackets_lawful bracket_first
 
--- what stands behind an expression
+-- what follows an expression
 pub close_after : Behind (expressions lowest_rank) (token close_bracket)
 close_after = token_after close_bracket close_stops
 

@@ -1,4 +1,4 @@
--- The laws of the readers of expressions, and the productions of expressions as readers one behind the other.
+-- The laws of the readers of expressions, and the productions of expressions as readers one after the other.
 use Rattle.std.proofs.Common.{◌≡◌, ◌<◌, Some, List, [], ◌∷◌, ◌++◌, map, refl, sym, ap, subst}
 use Rattle.std.specs.Prelude.{pos}
 use Rattle.liszt_lexer.specs.declared.token.TokenKind.TheVariants.{Number as NumberToken, Symbol}

@@ -21,7 +21,7 @@ fun_part = record { law = fun_lawful; free = free }
 pub number_part : Part (token_with_value number_of)
 number_part = record { law = number_lawful; free = free }
 
--- an expression and what is behind it
+-- an expression and what is after it
 pub rank_fails : {B : Type 0} {rank : Rank} {s : Reader B} → Behind (expressions rank) s → Lawful s → (ts : List Lexeme) (at : ℕ) (refused : Refused ℕ)
     → Fails (expressions rank) ts at refused → Fails (expressions rank then s) ts at refused
 rank_fails b law ts at refused h = first_fails law b ts at refused h

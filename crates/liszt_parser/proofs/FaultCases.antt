@@ -140,7 +140,7 @@ prints_fault =
     by_tokens two_prints prints_tokens (syntax_at 1 9) refl
     (syntax_is prints_tokens (end_of two_prints) 2 _ (omega arith) prints_before prints_not refl refl) refl
 
--- NOTHING BEHIND `print`
+-- NOTHING AFTER `print`
 abbrev primary_tokens : List Lexeme
 primary_tokens = word 7 1 (codes "print") ∷ []
 
@@ -195,7 +195,7 @@ below_fault =
     (syntax_is below_tokens (end_of two_below) 4 _ (omega arith) below_before below_not refl refl) refl
 
 -- MANY BRACKETS
--- so many brackets from a column on; `print` and the opening ones
+-- n brackets from a column on; `print` and the opening ones
 abbrev brackets : ℕ → List ℕ → ℕ → ℕ → List Lexeme
 brackets n bytes zero col = []
 brackets n bytes (suc count) col = symbol n col bytes ∷ brackets n bytes count (suc col)
@@ -212,7 +212,7 @@ opened_tokens count = word 7 1 (codes "print") ∷ openings count
 abbrev one_at : ℕ → Lexeme
 one_at col = digits 1 col (codes "1")
 
--- so many opening brackets begin a program
+-- n opening brackets begin a program
 opened_begin : (count : ℕ) → IsProgram (opened_tokens count ++ (one_at 0 ∷ closings count 0)) → IsProgramPrefix (opened_tokens count)
 opened_begin count p = begins_by (opened_tokens count) (one_at 0 ∷ closings count 0) p
 

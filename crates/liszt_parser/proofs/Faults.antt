@@ -1,4 +1,4 @@
--- What begins no statement and no expression, and what an item that begins with a known token goes on with.
+-- What begins no statement and no expression, and what an item that begins with a known token continues with.
 use Rattle.std.proofs.Common.{◌≡◌, zero, suc, ◌==◌, ◌&&◌, ◌||◌, ℕ, ℤ, ◌+◌, ◌<◌, ◌≤◌, Bool, true, false, Option, Some, None, List, [], ◌∷◌, ◌++◌, length, refl, sym, ap, subst, ◌∙◌, inl, inr, arith}
 use Rattle.std.specs.Prelude.{⊤, take, nat_le}
 use Rattle.std.specs.List.{list_all}
@@ -40,7 +40,7 @@ abbrev pub head_starts : List Lexeme → Bool
 head_starts [] = false
 head_starts (t ∷ ts) = starts t.kind
 
--- `mesh` and `{` don't
+-- `mesh` and `{` do not
 pub mesh_starts : starts mesh_word ≡ false
 unfolding starts starts_by
 mesh_starts = refl
@@ -82,7 +82,7 @@ is_open t h = symbol_kind 0 t.kind t.place t.bytes h
 is_close : (t : Lexeme) → is_close_bracket t ≡ true → t.kind ≡ close_bracket
 is_close t h = symbol_kind 1 t.kind t.place t.bytes h
 
--- an expression that begins with a bracket has one behind it
+-- an expression that begins with a bracket has one after it
 abbrev Begun : List Lexeme → Type 0
 Begun ts = (e : Expression) × (left : List Lexeme) × IsExpression lowest_rank ts e left
 
@@ -227,7 +227,7 @@ links_stop : {level : Level} {mid left : List Lexeme} {links : Links} → IsLink
 links_stop {level} {left} no_more_links stop = next_rank level (strength_at left) (omega arith)
 links_stop {level} (linked {s} t h d more) stop = let is = sign_strength level t.kind s h in next_rank level (strength t.kind) (omega arith)
 
--- the first operand of a chain, and what is left behind it
+-- the first operand of a chain, and what is left after it
 record First (rank : Rank) (ts : List Lexeme) : Type 0 where
   e : Expression
   left : List Lexeme
@@ -250,7 +250,7 @@ rel_continues t ts left rel h e stop =
     let stops : Stops comparison (t ∷ ts) = subst (Stops comparison) (sym e) stop in
     omega arith
 
--- two sums with a comparison between them and one behind them
+-- two sums with a comparison between them and one after them
 record Twice (ts : List Lexeme) : Type 0 where
   first : Expression
   second : Expression
@@ -320,7 +320,7 @@ main_block_name o t h (main_block o' c ho (items {mid} {i} d more) hc) = (i, mid
 pub program_item : (t : Lexeme) (ts : List Lexeme) (m : Main) → IsMain (t ∷ ts) m [] → HasItem (t ∷ ts)
 program_item t ts m (items {mid} {i} d more) = (i, mid, d)
 
--- a `for` goes on with a bracket for its set
+-- a `for` continues with a bracket for its set
 pub for_statement : {ts left : List Lexeme} {st : Statement} (w o n a s : Lexeme) → w.kind ≡ for_word
     → IsStatement (w ∷ o ∷ n ∷ a ∷ s ∷ ts) st left → (e : Expression) × (mid : List Lexeme) × IsBracketed ts e mid
 for_statement w o n a s h (var (is_declared w' n' s' hw hn hs d c)) = absurd cc
@@ -334,7 +334,7 @@ for_statement w o n a s h (for {mid} {e} w' o' n' a' s' c hw ho hn ha hs b hc k)
 pub no_bracketed : {ts left : List Lexeme} {e : Expression} (o t : Lexeme) → starts t.kind ≡ false → IsBracketed (o ∷ t ∷ ts) e left → ⊥
 no_bracketed o t h (bracketed o' c ho d hc) = no_expression t h d
 
--- a `for` over the mesh goes on with a block
+-- a `for` over the mesh continues with a block
 pub for_item : {ts left : List Lexeme} {i : MainItem} (w o n a k p m q c : Lexeme) → w.kind ≡ for_word
     → IsItem (w ∷ o ∷ n ∷ a ∷ k ∷ p ∷ m ∷ q ∷ c ∷ ts) i left → (body : Body) × IsBlock ts body left
 for_item w o n a k p m q c h (main_field w' n' d' k' s' hw hn hd hk hs d c') = absurd cc
@@ -345,7 +345,7 @@ for_item w o n a k p m q c h (main_while w' h' b l) = absurd cc
 for_item w o n a k p m q c h (main_for {body} w' o' n' a' k' p' m' q' c' hw ho hn ha hk hp hm hq hc b) = (body, b)
 for_item w o n a k p m q c h (print w' h' d c') = absurd cc
 
--- an `if` goes on with its block behind its test
+-- an `if` continues with its block after its test
 pub if_item : {ts mid left : List Lexeme} {i : MainItem} {e : Expression} (w : Lexeme) → w.kind ≡ if_word → IsBracketed ts e mid
     → IsItem (w ∷ ts) i left → (body : Main) × (mid' : List Lexeme) × IsMainBlock mid body mid'
 if_item w h b (main_field w' n' d' k' s' hw hn hd hk hs d c') = absurd cc
@@ -359,7 +359,7 @@ if_item w h b (main_while w' h' b' l) = absurd cc
 if_item w h b (main_for w' o' n' a' k' p' m' q' c' hw ho hn ha hk hp hm hq hc b') = absurd cc
 if_item w h b (print w' h' d c') = absurd cc
 
--- an assignment, and a `print`, goes on with an expression and what closes it
+-- an assignment, and a `print`, continues with an expression and what closes it
 pub assign_item : {ts left : List Lexeme} {i : MainItem} (n s : Lexeme) → n.kind ≡ NameToken → IsItem (n ∷ s ∷ ts) i left → Closed ts left
 assign_item n s h (main_field w' n' d' k' s' hw hn hd hk hs d c') = absurd cc
 assign_item n s h (main_var (is_declared w' n' s' hw hn hs d c')) = absurd cc
@@ -484,14 +484,14 @@ word_in_if w b n s v t test ts e value place tree h hn hv ht d m =
     let j = main_block_name b n hn body.2 in
     no_closed v t ts value place hv ht (assign_item n s hn j.2)
 
--- a word behind `print` and a number
+-- a word after `print` and a number
 pub word_after_print : (w v t : Lexeme) (ts : List Lexeme) (value : ℤ) (place : ℕ) (tree : Main) → w.kind ≡ print_word
     → v.kind ≡ NumberToken value → t.kind ≡ Word place → IsMain (w ∷ v ∷ t ∷ ts) tree [] → ⊥
 word_after_print w v t ts value place tree h hv ht m =
     let i = program_item w (v ∷ t ∷ ts) tree m in
     no_closed v t ts value place hv ht (print_item w h i.2)
 
--- nothing behind `print`
+-- nothing after `print`
 pub nothing_after_print : (w : Lexeme) (tree : Main) → w.kind ≡ print_word → IsMain (w ∷ []) tree [] → ⊥
 nothing_after_print w tree h m =
     let i = program_item w [] tree m in
@@ -499,7 +499,7 @@ nothing_after_print w tree h m =
     let begins = starts_of c.2 in
     cc
 
--- brackets behind `print`, and then what begins no expression
+-- brackets after `print`, and then what begins no expression
 pub nested_after_print : (w t : Lexeme) (os ts : List Lexeme) (tree : Main) → w.kind ≡ print_word → list_all is_open_bracket os ≡ true
     → starts t.kind ≡ false → IsMain (w ∷ (os ++ t ∷ ts)) tree [] → ⊥
 nested_after_print w t os ts tree h ho ht m =
@@ -507,7 +507,7 @@ nested_after_print w t os ts tree h ho ht m =
     let c = print_item w h i.2 in
     no_nested os t ts c.1 c.0 ho ht c.2
 
--- a comparison of three names behind `print`
+-- a comparison of three names after `print`
 pub compared_twice : (w a l b u : Lexeme) (ts : List Lexeme) (rel rel' : Rel) (tree : Main) → w.kind ≡ print_word → a.kind ≡ NameToken
     → rel_of l.kind ≡ Some rel → b.kind ≡ NameToken → rel_of u.kind ≡ Some rel' → IsMain (w ∷ a ∷ l ∷ b ∷ u ∷ ts) tree [] → ⊥
 compared_twice w a l b u ts rel rel' tree h ha hl hb hu m =

@@ -1,4 +1,4 @@
--- The productions of items, by their first tokens, as readers one behind the other.
+-- The productions of items, by their first tokens, as readers one after the other.
 use Rattle.std.proofs.Common.{◌≡◌, Bool, true, false, Option, Some, None, List, ◌∷◌, refl, sym, ap, subst, ◌∙◌}
 use Rattle.std.specs.Prelude.{⊤}
 use Rattle.liszt_base.specs.declared.elements.Kind.{Kind}

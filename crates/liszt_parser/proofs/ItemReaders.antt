@@ -117,7 +117,7 @@ main_block_becomes ts =
         × ((mid' : List Lexeme) × IsMain mid x.1.0 mid' × ((mid' ≡ x.1.1 ∷ left) × (x.1.1.kind ≡ close_brace)))) × ⊤ × (e ≡ x.1.0)
     out other left e (main_block {ts = us} o c h d h') = ((o, (e, c)), (us, (refl, h), (c ∷ left, d, (refl, h'))), tt, refl)
 
--- the steps behind the items of a block
+-- the steps after the items of a block
 pub main_fails : (ts : List Lexeme) (at : ℕ) (refused : Refused ℕ) → Fails mains ts at refused → Fails (mains then token close_brace) ts at refused
 main_fails ts at refused h = first_fails (token_lawful close_brace) close_mains ts at refused h
 

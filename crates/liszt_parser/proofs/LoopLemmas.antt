@@ -1,4 +1,4 @@
--- Loops that read one thing behind the other: what is read from here on, and what is stuck, is so from the start on.
+-- Loops that read one thing after the other: what is read from here on, and what is stuck, is so from the start on.
 use Rattle.std.proofs.Common.{◌≡◌, ℕ, List, [], ◌∷◌, ◌++◌, map, drop, refl, sym, ap, subst, ◌∙◌}
 use Rattle.liszt_base.specs.declared.answers.Refused.{Refused}
 use Rattle.liszt_tree.specs.Tree.{PlainLink, Links, no_links, link, links_of, Statement, Body, no_statement, statement, body_of, MainItem, Main, no_item, item, main_of}

@@ -21,7 +21,7 @@ use Rattle.liszt_parser.specs.Internal.Nesting.{ends_by, waiting_operands, IsNes
 use Rattle.liszt_parser.specs.Internal.Operands.{is_named, is_symbol_kind, nested_brackets, operand_step, operands_step, operand_start, kind_ends_operand}
 use Rattle.liszt_base.specs.Limits.{depth_limit}
 
--- THE OPERAND. What one token makes of it ends by the tokens behind that exactly where it ended by all.
+-- THE OPERAND. What one token makes of it ends by the tokens after that exactly where it ended by all.
 abbrev pub ended_by : Option Operand → List Lexeme → Bool
 ended_by None ts = true
 ended_by (Some o) ts = ends_by o ts
@@ -71,7 +71,7 @@ pub drops : {X Y : Type 0} (h : X → Option Y) (xs : List X) (i : ℕ) (d : X) 
     → filter_map h (take (i + 1) xs) ≡ filter_map h (take i xs)
 drops h xs i d lt e = filtered_more h xs i d lt ∙ ap (λ o. filter_map h (take i xs) ++ cons_option o []) e ∙ append-nil (filter_map h (take i xs))
 
--- WAITING. The operands that a token leaves wait for the tokens behind it as they waited for it and those.
+-- WAITING. The operands that a token leaves wait for the tokens after it as they waited for it and those.
 one_waits : (t : Lexeme) (o : Operand) (os : List Operand) (ts : List Lexeme)
     → waiting_operands (filter_map (λ o. operand_step o t.kind) os) ts ≡ waiting_operands os (t ∷ ts) → (next : Option Operand) → operand_step o t.kind ≡ next
     → waiting_operands (cons_option next (filter_map (λ o. operand_step o t.kind) os)) ts ≡ waiting_operands (o ∷ os) (t ∷ ts)
@@ -225,7 +225,7 @@ operands_step_few false os kind n h =
     let P : Operand → Type 0 = λ o. nested_brackets o ≤ n + one_if (opens_by kind) in
     All-append P _ _ (all_few os kind n h) (All-nil P)
 
--- A count and a token make the count behind it.
+-- A count and a token make the count after it.
 pub takes : (front : List Lexeme) (t : Lexeme) (old new : Nesting) → IsNesting front old
     → new.opened ≡ old.opened + one_if (opens_by t.kind) → new.closed ≡ old.closed + one_if (closes_by t.kind)
     → new.after_operand ≡ kind_ends_operand t.kind

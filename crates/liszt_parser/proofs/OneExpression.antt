@@ -1,4 +1,4 @@
--- Tokens begin with one expression at most, where what is left behind it doesn't go on with one.
+-- Tokens begin with one expression at most, where what is left after it does not continue with one.
 use Rattle.std.proofs.Common.{◌≡◌, ◌⊎◌, inl, inr, ℤ, List, ◌∷◌, Some, refl, sym, ap, subst, ◌∙◌, arith}
 use Rattle.liszt_lexer.specs.declared.token.TokenKind.TheVariants.{Name as NameToken, Number as NumberToken}
 use Rattle.liszt_tree.specs.declared.tree.Fun.{Fun}
@@ -12,7 +12,7 @@ use Rattle.liszt_parser.specs.Internal.Sorts.{Sort, Stops, a_call, a_name, a_num
 use Rattle.liszt_parser.specs.Internal.Productions.{chain_tree}
 use Rattle.liszt_parser.proofs.Sorts.{sort_number, sort_name, sort_call, sort_towards, sort_open, sort_minus, sort_bang, sign_strength, rel_strength, open_strength, close_strength, comma_strength}
 
--- WHAT IS CLAIMED: who reads a further tree from the tokens, with what is left behind it, reads this one
+-- WHAT IS CLAIMED: who reads a further tree from the tokens, with what is left after it, reads this one
 abbrev pub Agrees : Rank → List Lexeme → Expression → List Lexeme → Type 0
 Agrees rank ts e left =
     (e' : Expression) (left' : List Lexeme) → IsExpression rank ts e' left' → Stops rank left' → (e ≡ e') × (left ≡ left')
@@ -195,11 +195,11 @@ primary_by t ts left e h d = subst (λ s. AloneAt t ts s e left) h (primary_at t
 number_agrees : (t : Lexeme) (ts : List Lexeme) (n : ℤ) → t.kind ≡ NumberToken n → Agrees primary_expression (t ∷ ts) (Number t.place n) ts
 number_agrees t ts n h e' left' d' stop = let a = primary_by t ts left' e' (sort_number h) d' in (sym a.0, sym a.1)
 
--- an expression in brackets isn't what is left behind a name
+-- an expression in brackets is not what is left after a name
 bracketed_continues : {A : Type 0} {ts left : List Lexeme} {e : Expression} → IsBracketed ts e left → Stops primary_expression ts → A
 bracketed_continues (bracketed o c h d h') stop = let is = open_strength h in absurd (omega arith)
 
--- a name agrees where no bracket is left behind it, and so does a field with its bracket
+-- a name agrees where no bracket is left after it, and so does a field with its bracket
 name_agrees : (t : Lexeme) (ts : List Lexeme) → t.kind ≡ NameToken → Stops primary_expression ts → Agrees primary_expression (t ∷ ts) (Name t.place t.bytes) ts
 name_agrees t ts h stop e' left' d' stop' = go (primary_by t ts left' e' (sort_name h) d')
   where
@@ -276,7 +276,7 @@ primary_agrees d one e' left' (logical_not t h d') stop' = no_bang t d h
 not_both : {A : Type 0} (t : Lexeme) → t.kind ≡ minus → t.kind ≡ bang → A
 not_both t h h' = absurd cc
 
--- one with a prefix agrees where the one behind it does
+-- one with a prefix agrees where the one after it does
 negated_agrees : (t : Lexeme) (ts left : List Lexeme) (e : Expression) → t.kind ≡ minus → Agrees prefix_expression ts e left
     → Agrees prefix_expression (t ∷ ts) (Neg t.place e) left
 negated_agrees t ts left e h one e' left' (no_prefix d') stop' = no_minus t d' h

@@ -1,4 +1,4 @@
--- Tokens begin with one statement at most, and with one body, where what is left doesn't go on with it.
+-- Tokens begin with one statement at most, and with one body, where what is left does not continue with it.
 use Rattle.std.proofs.Common.{◌≡◌, Bool, true, false, List, ◌∷◌, Option, Some, refl, sym, ap, subst, ◌∙◌}
 use Rattle.liszt_base.specs.declared.elements.SetName.{SetName}
 use Rattle.liszt_lexer.specs.declared.token.TokenKind.{TokenKind}
@@ -71,7 +71,7 @@ no_how how e = cc
 how_no_bracket : (h : Lexeme) (ts : List Lexeme) (how : How) → how_of h.kind ≡ Some how → NoBracket (h ∷ ts)
 how_no_bracket h ts how is e left b = no_how how (sym (ap how_of (bracket_opens b)) ∙ is)
 
--- tokens begin with one target, where no bracket stands behind it
+-- tokens begin with one target, where no bracket stands after it
 one_target : {ts left left' : List Lexeme} {to to' : Option Expression} → NoBracket left → NoBracket left' → IsTarget ts to left
     → IsTarget ts to' left' → (to ≡ to') × (left ≡ left')
 one_target f f' no_target no_target = (refl, refl)
@@ -113,7 +113,7 @@ pub body_no_else : {ts left : List Lexeme} {b : Body} → IsBody ts b left → E
 body_no_else (no_statements {left}) ends = ends_no_else left ends
 body_no_else (statements d b) ends = begins_no_else d
 
--- WHAT IS CLAIMED: who reads further, with what is left behind it, reads this
+-- WHAT IS CLAIMED: who reads further, with what is left after it, reads this
 abbrev pub StatementAgrees : List Lexeme → Statement → List Lexeme → Type 0
 StatementAgrees ts s left = (s' : Statement) (left' : List Lexeme) → IsStatement ts s' left' → NoElse left' → (s ≡ s') × (left ≡ left')
 

@@ -43,7 +43,7 @@ pub main_no_else : {ts left : List Lexeme} {m : Main} → IsMain ts m left → E
 main_no_else (no_items {left}) ends = ends_no_else left ends
 main_no_else (items d k) ends = item_no_else d
 
--- WHAT IS CLAIMED: who reads further, with what is left behind it, reads this
+-- WHAT IS CLAIMED: who reads further, with what is left after it, reads this
 abbrev ItemAgrees : List Lexeme → MainItem → List Lexeme → Type 0
 ItemAgrees ts i left = (i' : MainItem) (left' : List Lexeme) → IsItem ts i' left' → NoElse left' → (i ≡ i') × (left ≡ left')
 

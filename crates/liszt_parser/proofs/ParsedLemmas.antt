@@ -63,7 +63,7 @@ deep_at_end ts ending deep place first lt s =
     let is : place ≡ deep + 1 = omega arith in
     deep_by ts ending deep first (subst IsProgramPrefix (ap (λ n. take n (take (deep + 1) ts)) is ∙ take-take (deep + 1) (deep + 1) ts (omega arith)) s.before)
 
--- THE TOKENS of a text lie in it, and so do those of a front; the lexemes of a front are a front of the lexemes.
+-- THE TOKENS of a text lie in it, and so do those of a front; the lexemes of a front are a prefix of the lexemes.
 abbrev lie_by : (text : List ℕ) (tokens : List Token) → AllByRecursion (IsSpelledIn text) tokens → AllByRecursion (IsInText text) tokens
 lie_by text [] h = tt
 lie_by text (t ∷ tokens) h =

@@ -18,7 +18,7 @@ ReadOrStuck {A} r ts = ((x : A) × (left : List Lexeme) × IsRead r ts x left) �
 pub left_length : {A : Type 0} {r : Reader A} {ts left : List Lexeme} {x : A} → IsRead r ts x left → length left ≤ length ts
 left_length {left = left} d = let parts = ap length d.parts in omega (arith, parts, length-append d.front left)
 
--- ONE BEHIND THE OTHER
+-- ONE AFTER THE OTHER
 pub known_from : {A B : Type 0} {r : Reader A} {s : Reader B} → Lawful r → Lawful s → Behind r s → Loose r s → (ts : List Lexeme) → ReadOrStuck r ts
     → ((x : A) (left : List Lexeme) → IsRead r ts x left → ReadOrStuck s left) → ReadOrStuck (r then s) ts
 unfolding ReadOrStuck
@@ -69,7 +69,7 @@ pub decide_for : {A : Type 0} (what : TokenKind → Option A) (ts : List Lexeme)
 decide_for what [] = inr (λ h. h)
 decide_for what (t ∷ ts) = decide_option (what t.kind)
 
--- a token, and what is behind it
+-- a token, and what is after it
 pub known_token : (kind : TokenKind) (ts : List Lexeme) → ReadOrStuck (token kind) ts
 unfolding ReadOrStuck
 known_token kind [] = inr ([], token_stuck kind [] (λ h. h))
@@ -140,7 +140,7 @@ known_maybe is {s} law fits decide ts stop k = go (decide ts) where
   go (inl h) = first h (k h)
   go (inr n) = inl (None, ts, nothing_read is ts n stop)
 
--- a choice with what is behind it, and then more: each of fewer tokens
+-- a choice with what is after it, and then more: each of fewer tokens
 pub known_more : {A B C : Type 0} {s : Reader B} {u : Reader C} (what : TokenKind → Option A) → Lawful (token_with_value what) → Lawful s → Lawful u
     → Behind (token_with_value what then s) u → Loose (token_with_value what then s) u → (ts : List Lexeme)
     → ((left : List Lexeme) → length left < length ts → ReadOrStuck s left) → ((left : List Lexeme) → length left < length ts → s.stops left → ReadOrStuck u left)

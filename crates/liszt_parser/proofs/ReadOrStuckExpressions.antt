@@ -34,7 +34,7 @@ pub loose : {B : Type 0} (rank : Rank) (s : Reader B) → Loose (expressions ran
 unfolding Loose
 loose rank s mid other left x d h = tt
 
--- a production of expressions, whatever is left behind it
+-- a production of expressions, whatever is left after it
 settled : {B : Type 0} {s : Reader B} {f : B → Expression} {rank : Rank} (ts : List Lexeme) → Becomes (expressions rank) s f ts → Lawful s
     → ((left other : List Lexeme) → s.fits left other) → ReadOrStuck s ts → ReadOrStuck (expressions rank) ts
 settled {rank = rank} ts b law fits k =
@@ -54,7 +54,7 @@ known_arguments : (n : ℕ) → Knows n → (ts : List Lexeme) → length ts < s
 known_arguments n k ts lt =
     known_maybe (Is open_bracket) brackets_lawful (λ left other. tt) (decide_is open_bracket) ts tt (λ h. known_brackets n k ts lt)
 
--- the rest of an orientation, behind its word
+-- the rest of an orientation, after its word
 known_inner : (n : ℕ) → Knows n → (ts : List Lexeme) → length ts < n → ReadOrStuck (expressions lowest_rank then token close_bracket) ts
 known_inner n k ts lt =
     known_then (expressions_lawful lowest_rank) (token_lawful close_bracket) close_after (loose lowest_rank (token close_bracket)) ts

@@ -101,7 +101,7 @@ known_elses n k ts lt =
     known_maybe (Is else_word) (mapped_lawful (λ x. x.1) else_lawful) (λ left other. tt) (decide_is else_word) ts tt
     (λ h. known_mapped (token else_word then blocks) (λ x. x.1) ts (known_after else_word blocks_lawful ts (λ left less. known_block n k left (omega arith))))
 
--- brackets and a block behind them
+-- brackets and a block after them
 pub known_headed : {B : Type 0} {s : Reader B} → Lawful s → (m : ℕ) (ts : List Lexeme) → length ts < m
     → ((left : List Lexeme) → length left < m → ReadOrStuck s left) → ReadOrStuck (brackets then s) ts
 known_headed {s = s} law m ts lt k =

@@ -41,18 +41,18 @@ pub record Lawful {A : Type 0} (r : Reader A) : Type 0 where
   pub some : A
   pub reads_some : (left : List Lexeme) → r.reads (tokens ++ left) some left
 
--- what one reader needs of another behind it
+-- what one reader needs of another after it
 pub record Behind {A B : Type 0} (r : Reader A) (s : Reader B) : Type 0 where
   pub stops : (mid left : List Lexeme) (x : B) → s.reads mid x left → s.stops left → r.stops mid
   pub fits : (mid other : List Lexeme) (x : B) → s.reads mid x mid → s.fits mid other → r.fits mid other
 
--- where nothing is read behind it, what is may stand in the place of what is left
+-- where nothing is read after it, what is may stand in the place of what is left
 unfoldable pub Loose : {A B : Type 0} → Reader A → Reader B → Type 0
 Loose {B = B} r s =
     (mid other left : List Lexeme) (x : B) → s.reads other x left → ((x : B) (left : List Lexeme) → s.reads mid x left → s.stops left → ⊥)
     → r.fits mid other
 
--- a reader behind which anything may stand
+-- a reader after which anything may stand
 pub record Free {A : Type 0} (r : Reader A) : Type 0 where
   pub stops : (left : List Lexeme) → r.stops left
   pub fits : (left other : List Lexeme) → r.fits left other
@@ -64,7 +64,7 @@ pub free_loose : {A B : Type 0} (r : Reader A) (s : Reader B) → Free r → Loo
 unfolding Loose
 free_loose r s f mid other left x d h = f.fits mid other
 
--- ONE BEHIND THE OTHER
+-- ONE AFTER THE OTHER
 -- in the place of what a reader left, something that begins as it did
 fits_parts : {A B : Type 0} (r : Reader A) (s : Reader B) → Lawful r → Behind r s → (front left other : List Lexeme) (x : B)
     → ((us : List Lexeme) → s.fits left us → s.reads (front ++ us) x us) → s.fits left left → s.fits left other
@@ -237,7 +237,7 @@ becomes_stuck {A} {B} {r} {s} {f} ts at b d =
           d.ends_here other left x.0 h x.1 x.2;
     }
 
--- what is read as the production, but with what can't be left, is stuck there
+-- what is read as the production, but with what cannot be left, is stuck there
 pub becomes_stopped : {A B : Type 0} {r : Reader A} {s : Reader B} {f : B → A} (ts left : List Lexeme) (x : B) → Becomes r s f ts → Lawful r
     → Lawful s → IsRead s ts x left → ((other : List Lexeme) → s.fits left other) → (r.stops left → ⊥) → IsStuck r ts left
 becomes_stopped {A} {B} {r} {s} {f} ts left x b law law' d fits not =

@@ -1,4 +1,4 @@
--- The canonical text of a tree that a text's tokens derive reads back, up to places, where it doesn't have too many tokens.
+-- The canonical text of a tree that a text's tokens derive reads back, up to places, where it does not have too many tokens.
 use Rattle.std.proofs.Common.{◌≡◌, ℕ, zero, suc, ◌+◌, ◌≤◌, Ok, Err, List, [], ◌∷◌, ◌++◌, length, map, take, refl, sym, ap, subst, ◌∙◌}
 use Rattle.std.proofs.Common.{append_assoc, length-append, arith}
 use Rattle.std.specs.List.{AllByRecursion}
@@ -46,7 +46,7 @@ as_placed text [] = refl
 as_placed text (t ∷ tokens) =
     ap (λ (ts : List Lexeme). record { kind = t.kind; place = t.place; bytes = bytes_of text t } ∷ ts) (as_placed text tokens)
 
--- THE CANONICAL TEXT comes to the words of its tree,
+-- THE CANONICAL TEXT results in the words of its tree,
 canonical_words : (text : List ℕ) (tokens : List Token) (tree : Main) → tokens_of text ≡ Ok tokens → Derives (lexemes text tokens) tree
     → (tokens' : List Token) → tokens_of (canonical tree) ≡ Ok tokens'
     → lexemes (canonical tree) tokens' ≡ placed (place_at tokens') (main_words tree [])
@@ -71,7 +71,7 @@ only_too_many text tokens tree e d fault e' =
     let h = writable text tokens tree e d in
     subst (ResultsIn (canonical tree) (main_words tree [])) e' (results_in (canonical tree) (main_words tree []) (canonical_spells tree h))
 
--- DEPTH. That no token is deeper than 64, at each place and behind each front
+-- DEPTH. That no token is deeper than 64, at each place and after each front
 front_shallow : (whole : List Lexeme) → IsShallow whole (length whole) → (n : ℕ) → n ≤ length whole → depth (take n whole) ≤ depth_limit
 front_shallow whole h zero le = omega arith
 front_shallow whole h (suc n) le =

@@ -299,7 +299,7 @@ declaration {word} (is_declared w n s is named set d close) =
     led w (quiets w (Word word) is (word_lead word).quiet)
     (led n (quiets n NameToken named quiet_name) (valued s (leads s set_to set set_lead) d close))
 
--- a part in brackets and lines behind it
+-- a part in brackets and lines after it
 head_text : {n : ℕ} {ts mid left : List Lexeme} {e : Expression} (t : Lexeme) → IsQuiet t.kind → IsBracketed ts e mid → LineReaches n mid left
     → LineReaches (max (suc (expression_deep e)) n) (t ∷ ts) left
 head_text t quiet d r =

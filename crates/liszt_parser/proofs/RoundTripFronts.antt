@@ -1,4 +1,4 @@
--- How deep the tokens of a text are behind a front of it, and what tokens do to that.
+-- How deep the tokens of a text are after a prefix of it, and what tokens do to that.
 use Rattle.std.proofs.Common.{◌≡◌, ℕ, suc, ◌+◌, ◌-◌, ◌≤◌, ◌==◌, ◌&&◌, not, cond, Bool, true, false, Option, Some, None, List, []}
 use Rattle.std.proofs.Common.{◌∷◌, ◌++◌, refl, sym, ap, subst, ◌∙◌, append_assoc, arith}
 use Rattle.std.specs.List.{count_by}
@@ -105,7 +105,7 @@ pub unless_less : (b : Bool) (p : ℕ) → unless b p ≤ p
 unless_less true p = omega arith
 unless_less false p = omega arith
 
--- FRONTS. Tokens that don't close the innermost open bracket, and whether they begin with a bracket.
+-- FRONTS. Tokens that do not close the innermost open bracket, and whether they begin with a bracket.
 abbrev pub StaysInside : List Lexeme → Type 0
 StaysInside ts = (n : ℕ) → closes_bracket (suc n) ts ≡ false
 
@@ -113,7 +113,7 @@ abbrev pub begins_open : List Lexeme → Bool
 begins_open [] = false
 begins_open (t ∷ ts) = is_open_bracket t
 
--- Behind a front with so many open brackets and braces, so many prefix operators wait for a bracket to close, and so many for the
+-- After a front with n open brackets and braces, n prefix operators wait for a bracket to close, and n for the
 -- operand that comes; its last token is known, and whether a bracket may come next.
 pub record Front (front : List Lexeme) (before : Option Lexeme) (open_ waiting_operands coming : ℕ) (stop : Bool) : Type 0 where
   pub opened : count_by is_opening front ≡ count_by is_closing front + open_
@@ -131,7 +131,7 @@ no_front = record { opened = refl; pends = λ ts inside stop. nothing ts } where
   nothing : (ts : List Lexeme) → pending_prefixes None ts ≡ 0 + unless (holds_operand ts) 0 + pending_prefixes None ts
   nothing ts = let none = unless_none (holds_operand ts) 0 refl in omega (arith, none)
 
--- DEPTHS that are at most 64, at a front and at each token behind it
+-- DEPTHS that are at most 64, at a front and at each token after it
 abbrev pub ShallowIn : List Lexeme → List Lexeme → Type 0
 ShallowIn front [] = depth front ≤ depth_limit
 ShallowIn front (t ∷ ts) = (depth front ≤ depth_limit) × ShallowIn (front ++ t ∷ []) ts

@@ -123,7 +123,7 @@ word_caller place = record { quiet = quiet_of (Word place) refl refl; calls = λ
 pub word_lead : (place : ℕ) → IsLead (Word place)
 word_lead place = lead_of (Word place) refl refl refl
 
--- BY TABLES. What stands for a function, a kind or a set is a word.
+-- BY TABLES. What denotes a function, a kind or a set is a word.
 pub fun_caller : (kind : TokenKind) (fun : Fun) → fun_of kind ≡ Some fun → IsCaller kind
 fun_caller (Word place) fun e = word_caller place
 fun_caller _ fun e = cc

@@ -1,4 +1,4 @@
--- Parts of a text's tokens, how deep they go at most, and what they leave behind them.
+-- Parts of a text's tokens, how deep they go at most, and what they leave after them.
 use Rattle.std.proofs.Common.{◌≡◌, ℕ, suc, ◌+◌, ◌≤◌, max, ◌&&◌, not, cond, Bool, true, false, Option, Some, None, List, [], ◌∷◌, ◌++◌}
 use Rattle.std.proofs.Common.{refl, sym, ap, subst, ◌∙◌, append_assoc, arith}
 use Rattle.std.specs.List.{count_by}
@@ -9,7 +9,7 @@ use Rattle.liszt_parser.specs.Grammar.{Lexeme}
 use Rattle.liszt_parser.proofs.RoundTripFronts.{of_kind, IsPlain, IsQuiet, IsOperator, counted, not_counted, one_counted, plain_skips, opening_step, closing_step, closing_last, passes, quiet_is_no_prefix, plain_after_operand, unless, unless_none, unless_less, StaysInside, begins_open, Front, depth_of, ShallowIn, chain_tree, parted, after, after_operator}
 use Rattle.liszt_base.specs.Limits.{depth_limit}
 
--- WHERE A PART MAY STAND: behind which token, how many prefix operators wait for it, and whether no bracket may come
+-- WHERE A PART MAY STAND: after which token, how many prefix operators wait for it, and whether no bracket may come
 abbrev pub Entry : Type 1
 Entry = Option Lexeme → ℕ → Bool → Type 0
 
@@ -31,7 +31,7 @@ AsOperand before coming stop = (stop ≡ false) × (is_operand_end before ≡ fa
 abbrev pub AsAtom : Entry
 AsAtom before coming stop = stop ≡ false
 
--- A PART of the tokens, that stands there, with what is left behind it.
+-- A PART of the tokens, that stands there, with what is left after it.
 pub record Passage (enters : Entry) (ts left : List Lexeme) : Type 0 where
   pub tokens : List Lexeme
   pub last : Option Lexeme → Option Lexeme
@@ -53,7 +53,7 @@ pub record Segment (enters : Entry) (deep : ℕ) (ts left : List Lexeme) : Type 
   pub upper : (front : List Lexeme) (before : Option Lexeme) (k q p : ℕ) (stop : Bool) → Front front before k q p stop → enters before p stop
       → k + q + p + deep ≤ depth_limit → ShallowIn front part.tokens
 
--- the front behind a part
+-- the front after a part
 pub leaves : {enters : Entry} {ts left front : List Lexeme} {before : Option Lexeme} {k q p : ℕ} {stop : Bool} (part : Passage enters ts left)
     → Front front before k q p stop → enters before p stop → Front (front ++ part.tokens) (part.last before) k q 0 true
 leaves {front} {before} {k} {q} {p} {stop} part h here =
@@ -547,7 +547,7 @@ braces {m} {ts} {left} o c is closing s =
     whole : (front : List Lexeme) → front ++ o ∷ [] ++ s.part.tokens ++ c ∷ [] ≡ front ++ (o ∷ (s.part.tokens ++ c ∷ []))
     whole front = append_assoc (front ++ o ∷ []) s.part.tokens (c ∷ []) ∙ append_assoc front (o ∷ []) (s.part.tokens ++ c ∷ [])
 
--- OPERANDS end as operands do, and so do the links of a chain behind one.
+-- OPERANDS end as operands do, and so do the links of a chain after one.
 pub record Operand (enters : Entry) (deep : ℕ) (ts left : List Lexeme) : Type 0 where
   pub segment : Segment enters deep ts left
   pub ended : (before : Option Lexeme) → is_operand_end (segment.part.last before) ≡ true

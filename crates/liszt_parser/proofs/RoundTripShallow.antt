@@ -239,7 +239,7 @@ declaration word bytes called init at ws =
     led (placed_word (at 0) (spelt (Word word) bytes)) (word_lead word).quiet (led (placed_word (at 1) (spelt NameToken called)) quiet_name
     (valued (placed_word (at 2) (spelt set_to (codes "="))) init (later (later (later at))) ws set_lead))
 
--- an expression in brackets behind a token, and a line behind it
+-- an expression in brackets after a token, and a line after it
 abbrev WritesLine : ℕ → Words → List Spelling → Type 0
 WritesLine n words ws = (at : ℕ → Place) → WrittenLine n (placed at (words ws)) ws
 

@@ -1,4 +1,4 @@
--- What holds of all entries of a table holds of what stands for a place, or for a symbol, in it.
+-- A property of all entries of a table is one of the entry at an index, and of the entry of a symbol.
 use Rattle.std.proofs.Common.{◌≡◌, ℕ, ◌==◌, cond, Bool, true, false, Some, List, [], ◌∷◌, refl, subst}
 use Rattle.std.specs.List.{AllByRecursion}
 use Rattle.std.proofs.lemmas.Bool.{eqb-true}

@@ -94,11 +94,11 @@ how_is (Fold Max) = record { is = refl }
 record Writes (text : List ℕ) (words : Words) : Type 0 where
   write : (rest : List ℕ) (ws : List Spelling) → EndsToken rest → Spells rest ws → Spells (text ++ rest) (words ws)
 
--- a text ends tokens, or what is behind it does
+-- a text ends tokens, or what is after it does
 abbrev Follows : List ℕ → Type 0
 Follows text = (rest : List ℕ) → EndsToken rest → EndsToken (text ++ rest)
 
--- one token, a blank, and a text with another behind it
+-- one token, a blank, and a text with another after it
 token : {bytes : List ℕ} (kind : TokenKind) → IsSpelling kind bytes → Writes bytes (λ ws. spelt kind bytes ∷ ws)
 token {bytes} kind is = record { write = λ rest ws stops more. spells_token bytes rest kind ws is stops more }
 
@@ -113,7 +113,7 @@ both {a} {b} {f} {g} follows ha hb =
           subst (λ l. Spells l (f (g ws))) (sym (append_assoc a b rest)) (ha.write (b ++ rest) (g ws) (follows rest stops) (hb.write rest ws stops more));
     }
 
--- a text that doesn't begin with `=`, with another behind it
+-- a text that does not begin with `=`, with another after it
 begins_in : (text rest : List ℕ) → begins_well text ≡ true → begins_well (text ++ rest) ≡ true
 begins_in [] rest e = cc
 begins_in (b ∷ text) rest e = e
@@ -182,7 +182,7 @@ operated {bytes} {a} {b} {f} {g} kind is left right =
     subst (λ (l : List ℕ). Writes l (λ ws. f (spelt kind bytes ∷ g ws))) (sym (append_assoc a (spaced_text bytes) b))
     (both (λ rest stops. refl) left (between kind is right))
 
--- an operator, its operand and the links behind it
+-- an operator, its operand and the links after it
 one_link : {bytes a b : List ℕ} {f g : Words} (kind : TokenKind) → IsSpelling kind bytes → Follows b → Writes a f → Writes b g
     → Writes (spaced_text bytes ++ a ++ b) (λ ws. spelt kind bytes ∷ f (g ws))
 one_link {bytes} {a} {b} {f} {g} kind is follows operand more =
@@ -386,7 +386,7 @@ a_target : {text : List ℕ} {words : Words} (target : Option Expression) → Is
 a_target None h follows more = more
 a_target (Some target) h follows more = both follows (in_brackets (begins target h) (expression target h)) more
 
--- a name, what may stand behind it, an operator and a value
+-- a name, what may stand after it, an operator and a value
 assigns : {name set text : List ℕ} {words : Words} (target : Option Expression) (kind : TokenKind) → IsSpelling NameToken name
     → IsWritableTarget target → IsSpelling kind set → Writes text words
     → Writes (name ++ target_text target ++ spaced_text set ++ text)

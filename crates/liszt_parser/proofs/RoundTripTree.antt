@@ -38,7 +38,7 @@ abbrev pub placed : (ℕ → Place) → List Spelling → List Lexeme
 placed at [] = []
 placed at (w ∷ ws) = placed_word (at 0) w ∷ placed (later at) ws
 
--- THE TOKENS of functions, kinds, sets and operators stand for them.
+-- THE TOKENS of functions, kinds, sets and operators denote them.
 pub fun_has_value : (fun : Fun) → fun_of (fun_token fun) ≡ Some fun
 fun_has_value Head = refl
 fun_has_value Tail = refl

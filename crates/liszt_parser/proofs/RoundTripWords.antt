@@ -23,7 +23,7 @@ use Rattle.liszt_tree.specs.Canonical.{kind_word, mesh_set_word, set_word, fun_w
 use Rattle.liszt_tree.specs.Tree.{Expression, Number, Name, Field, Call, Towards, Neg, Not, Chain, Compare, Links, no_links, link, Statement, Var, Val, Assign, If, While, For, Body, no_statement, statement, MainItem, MainField, MainVar, MainAssign, MainIf, MainWhile, MainFor, Print, Main, no_item, item}
 use Rattle.liszt_parser.specs.Grammar.{open_bracket, close_bracket, open_brace, close_brace, comma, semicolon, colon, arrow, minus, bang, set_to, field_word, var_word, val_word, if_word, else_word, while_word, for_word, print_word, mesh_word, towards_word, sign_of}
 
--- WHAT THE TOKENS ARE that stand for functions, kinds, sets and operators
+-- WHAT THE TOKENS ARE that denote functions, kinds, sets and operators
 abbrev pub fun_token : Fun → TokenKind
 fun_token Head = Word 15
 fun_token Tail = Word 16

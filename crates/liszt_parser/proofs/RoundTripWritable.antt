@@ -24,7 +24,7 @@ named t is known = subst (λ k. IsSpelling k t.bytes) is known
 small : (t : Lexeme) (n : ℤ) → t.kind ≡ NumberToken n → IsSpelling t.kind t.bytes → IsSmall n
 small t n is known = let spelled : IsSpelling (NumberToken n) t.bytes = subst (λ k. IsSpelling k t.bytes) is known in number_is_small t.bytes n spelled.is
 
--- an operator of a level is the one that its token stands for there
+-- an operator of a level is the one that its token denotes there
 sign_found : (level : Level) (kind : TokenKind) (s : Sign) → sign_of level kind ≡ Some s → sign_of level (sign_token s) ≡ Some s
 sign_found Or kind s e = table_symbol (λ kind s. sign_of Or (sign_token s) ≡ Some s) ((15, sign.Or) ∷ []) kind s (refl, tt) e
 sign_found And kind s e = table_symbol (λ kind s. sign_of And (sign_token s) ≡ Some s) ((14, sign.And) ∷ []) kind s (refl, tt) e

@@ -1,4 +1,4 @@
--- What a token begins or goes on with, by its kind: its sort, and its strength as an operator.
+-- What a token begins or continues with, by its kind: its sort, and its strength as an operator.
 use Rattle.std.proofs.Common.{◌≡◌, ℕ, ◌==◌, ℤ, false, List, Some, sym, ap, ◌∙◌, arith}
 use Rattle.std.proofs.lemmas.Bool.Decides.{nat_tests}
 use Rattle.liszt_lexer.specs.declared.token.TokenKind.{TokenKind}
@@ -129,7 +129,7 @@ pub comma_strength : {kind : TokenKind} → kind ≡ comma → strength kind ≡
 unfolding strength strength_or
 comma_strength e = ap strength e
 
--- what closes a statement goes on with no expression
+-- what closes a statement continues with no expression
 pub closes_stops : {mid left : List Lexeme} → Closes mid left → Stops lowest_rank mid
 unfolding strength strength_or
 closes_stops (by_semicolon t h) = let zero_is : strength t.kind ≡ 0 = ap strength h in omega arith

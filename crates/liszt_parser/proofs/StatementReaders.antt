@@ -176,7 +176,7 @@ elses_lawful = maybe_lawful (Is else_word) (mapped_lawful (λ x. x.1) else_lawfu
 pub block_elses : Lawful (blocks then elses)
 block_elses = part_lawful blocks_part elses_lawful
 
--- the steps behind a target, and behind the body of a block
+-- the steps after a target, and after the body of a block
 pub argument_fails : (ts : List Lexeme) (at : ℕ) (refused : Refused ℕ) → Fails arguments ts at refused
     → Fails (arguments then token_with_value how_of then closed) ts at refused
 argument_fails ts at refused h = first_fails how_closed argument_how ts at refused h

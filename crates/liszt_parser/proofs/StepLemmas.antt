@@ -1,4 +1,4 @@
--- The steps of a parser that reads one thing behind the other: what fails at a step fails as a whole.
+-- The steps of a parser that reads one thing after the other: what fails at a step fails as a whole.
 use Rattle.std.proofs.Common.{◌≡◌, ℕ, List, drop, sym, ap, subst, ◌∙◌}
 use Rattle.std.specs.Prelude.{Result, Ok, Err}
 use Rattle.std.specs.Result.{IsErrAnd}
@@ -16,7 +16,7 @@ pub leaves : {A T : Type 0} (least : ℕ) (r : Reader A) (tree : T → A) (ts : 
 leaves least r tree ts at result refused e h =
     let p = err_from_is_err_and result e in subst (Outcome least r tree ts at) (sym (p.1 ∙ ap Err p.2)) h
 
--- A PART behind which anything may stand
+-- A PART after which anything may stand
 pub record Part {A : Type 0} (r : Reader A) : Type 0 where
   pub law : Lawful r
   pub free : Free r
@@ -44,7 +44,7 @@ pub map_fails : {A B : Type 0} {s : Reader B} (f : B → A) → Lawful s → (ts
     → Fails s ts at refused → Fails (mapped_reader f s) ts at refused
 map_fails {s = s} f law ts at refused h = mapped_fails s f ts at refused h
 
--- A PRODUCTION that is read, where it isn't known yet whether what is left may be left
+-- A PRODUCTION that is read, where it is not known yet whether what is left may be left
 pub settles : {A B T : Type 0} {r : Reader A} {s : Reader B} {f : B → A} (tree : T → A) (part : T → B) → ((t : T) → f (part t) ≡ tree t)
     → Lawful r → Lawful s → ((left other : List Lexeme) → (r.stops left → ⊥) → s.fits left other) → (ts : List Lexeme) (at : ℕ)
     (result : Result (T × ℕ) (Refused ℕ)) → Becomes r s f (drop at ts) → Outcome 1 s part ts at result → Settled r tree ts at result
@@ -56,7 +56,7 @@ settles {r = r} tree part same law law' fits ts at (Ok x) b h = (
 )
 settles tree part same law law' fits ts at (Err refused) b h = becomes_fails ts at refused b h
 
--- and where that doesn't matter, as its tree
+-- and where that does not matter, as its tree
 pub gives : {A B : Type 0} {r : Reader A} {s : Reader B} {f : B → A} (e : A) (ts left : List Lexeme) (x : B) → f x ≡ e → Becomes r s f ts
     → r.stops left → IsRead s ts x left → IsRead r ts e left
 gives {r = r} e ts left x is b stop d = subst (λ e. IsRead r ts e left) is (becomes_read ts left x b d stop)

@@ -1,4 +1,4 @@
--- Which tokens have a strength, so that what doesn't go on with an expression stops it.
+-- Which tokens have a strength, so that what does not continue with an expression stops it.
 use Rattle.std.proofs.Common.{◌≡◌, ℕ, ◌<◌, ◌≤◌, ◌⊎◌, inl, inr, true, Option, Some, None, List, [], ◌∷◌, refl, ap, arith}
 use Rattle.std.specs.Prelude.{is_some}
 use Rattle.std.proofs.lemmas.Bool.Decides.{nat_tests}

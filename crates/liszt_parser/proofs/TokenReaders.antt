@@ -134,7 +134,7 @@ maybe_stuck is {s} ts at h d =
           let x = begins_it is s ts d.front at other left e h d.parts k m stop.0 in d.ends_here other left x.0 k x.1 stop.1;
     }
 
--- it is read, but with one more of it behind it
+-- it is read, but with one more of it after it
 pub maybe_twice : {B : Type 0} (is : TokenKind → Type 0) {s : Reader B} (ts left : List Lexeme) (x : B) → Lawful s → HeadIs is ts
     → ((other : List Lexeme) → s.fits left other) → IsRead s ts x left → HeadIs is left → IsStuck (optional is s) ts left
 maybe_twice {B} is {s} ts left x law h fits d again =

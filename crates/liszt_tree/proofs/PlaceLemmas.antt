@@ -1,4 +1,4 @@
--- The canonical text of a tree doesn't depend on its places.
+-- The canonical text of a tree does not depend on its places.
 use Rattle.std.proofs.Common.{◌≡◌, ℕ, ◌+◌, Option, Some, None, refl, sym, ap, ◌∙◌}
 use Rattle.liszt_tree.specs.Canonical.{chain_level, level_of, expression_text, links_text, target_text, statement_text, body_text, item_text, main_text, canonical}
 use Rattle.liszt_tree.specs.Tree.{Expression, Number, Name, Field, Call, Towards, Neg, Not, Chain, Compare, Links, no_links, link}
@@ -7,7 +7,7 @@ use Rattle.liszt_tree.specs.Tree.{MainItem, MainField, MainVar, MainAssign, Main
 use Rattle.liszt_tree.specs.Tree.{expression_without_places, links_without_places, statement_without_places, body_without_places, item_without_places, main_without_places, Same}
 use Rattle.std.specs.Option.{option_map}
 
--- levels don't
+-- levels do not
 level : (e : Expression) → level_of (expression_without_places e) ≡ level_of e
 level (Number place value) = refl
 level (Name place name) = refl

@@ -1,4 +1,4 @@
--- The least place of a piece that so many earlier cells have is the place of the first cell that has one.
+-- The least place of a piece that n earlier cells have is the place of the first cell that has one.
 use Rattle.std.proofs.Common.{◌≡◌, ℕ, ◌+◌, ◌<◌, ◌≤◌, ◌==◌, ◌&&◌, ◌||◌, nat_lt, cond, min, Bool, true, false, Option, Some, None}
 use Rattle.std.proofs.Common.{List, [], ◌∷◌, ◌++◌, length, map, refl, sym, ap, ◌∙◌, inl, inr, arith, eqb-true, eq-eqb, ne_eqb, ◌≢◌}
 use Rattle.std.proofs.Common.{append_assoc, length-append, le_antisymm, lt-ltb, le-ltb}
@@ -76,7 +76,7 @@ reduce_least (x ∷ xs) = least_among x xs
 
 -- ---- tests of lists
 
--- tests that are one, tests of values, of two lists, and ones that fail or don't depend on the member
+-- tests that are one, tests of values, of two lists, and ones that fail or do not depend on the member
 pub any_same : {A : Type 0} (p q : A → Bool) (xs : List A) → ((x : A) → p x ≡ q x) → list_any p xs ≡ list_any q xs
 any_same p q [] h = refl
 any_same p q (x ∷ xs) h = cc (h x, any_same p q xs h)
@@ -120,7 +120,7 @@ abbrev pub held : List ℕ → List (List (List ℕ)) → ℕ
 held corners [] = 0
 held corners (pieces ∷ cells) = count_by (λ piece. same_members piece corners) pieces + held corners cells
 
--- some piece of the cell is one of more than so many earlier ones
+-- some piece of the cell is one of more than n earlier ones
 abbrev pub item_passes : ℕ → List (List (List ℕ)) → List (List ℕ) → Bool
 item_passes few earlier pieces = list_any (λ piece. nat_lt few (held piece earlier)) pieces
 
@@ -223,7 +223,7 @@ least_along test said all h before (pieces ∷ rest) e place p =
     least_step test place pieces rest (said before pieces) (along said (before ++ pieces ∷ []) rest) this
     (least_along test said all h (before ++ pieces ∷ []) rest split (place + 1) next)
 
--- a piece with this place that more than so many earlier ones have; the least such place
+-- a piece with this place that more than n earlier ones have; the least such place
 abbrev pub has_earlier : ℕ → List (List ℕ × ℕ) → ℕ → Bool
 has_earlier few pieces place = list_any (λ piece. (piece.1 == place) && nat_lt few (count_by (is_earlier piece) pieces)) pieces
 

@@ -81,7 +81,7 @@ one_cell attributes points base k l words c d h i =
     h.attributes_are i.attributes_are in
     same_cell c.corners d.corners c.region d.region corners (h.region_is ∙ (ap first_or_zero numbers ∙ sym i.region_is))
 
--- so many words that pass as corners spell so many places of points, and such words pass
+-- n words that pass as corners spell n places of points, and such words pass
 places_spelled : (base points n : ℕ) (words : List (List ℕ)) → AllZip Passes (replicate n (Corner base points)) words
     → (places : List ℕ) × SpellPlaces base words places × (length places ≡ n) × (list_all (λ v. nat_lt v points) places ≡ true)
 places_spelled base points zero [] h = ([], refl, refl, refl)
@@ -158,7 +158,7 @@ cell_number attributes points base number words cell h =
 
 -- ---- the cell that the code makes of the row's numbers
 
--- the numbers of so many corners
+-- the numbers of n corners
 places_numbers : (base points n : ℕ) (words : List (List ℕ)) (places : List ℕ) → SpellPlaces base words places → length places ≡ n
     → map word_number (zip (replicate n (Corner base points)) words) ≡ map (λ v. pos (base + v)) places
 places_numbers base points n words places e l =

@@ -191,7 +191,7 @@ rows_fit (row ∷ rows) (piece ∷ pieces) z h = ((z.0, h.0), rows_fit rows piec
 
 -- ---- the least place
 
--- The least repeat of the sorted rows is the first cell one of whose pieces more than so many earlier ones have.
+-- The least repeat of the sorted rows is the first cell one of whose pieces more than n earlier ones have.
 pub least_repeat_is : (few back : ℕ) → back ≡ suc few → (cells : List (List (List ℕ))) → AllByRecursion ArePieces cells
     → (rows sorted : List (Row (List ℕ))) → AllZip IsRow rows (with_cell_index 0 cells) → IsPermutation rows sorted
     → IsSorted (row_order key_order) sorted → (same : List ℕ → List ℕ → Bool) → ((x y : List ℕ) → same x y ≡ is_eq (key_order x y))

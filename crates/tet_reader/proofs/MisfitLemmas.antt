@@ -1,4 +1,4 @@
--- What sorted rows of the corners of cells, or of their faces, say of the first cell that comes again and of the first that is the
+-- What sorted rows of the corners of cells, or of their faces, say of the first cell that is repeated and of the first that is the
 -- third with some face.
 use Rattle.std.proofs.Common.{◌≡◌, ℕ, suc, ◌+◌, ◌&&◌, ◌||◌, nat_lt, cond, min, Bool, true, false}
 use Rattle.std.proofs.Common.{List, [], ◌∷◌, ◌++◌, length, map, refl, sym, ap, ◌∙◌, arith, eqb, nat_cmp}
@@ -49,7 +49,7 @@ same_back xs ys = and_back (includes xs ys) (includes ys xs) where
   and_back false true = refl
   and_back false false = refl
 
--- where a cell has a piece of an earlier one, it comes again
+-- where a cell has a piece of an earlier one, it is repeated
 repeated_alone : (corners : List ℕ) (earlier : List (List ℕ))
     → nat_lt 0 (held corners (map single_piece earlier)) ≡ list_any (same_members corners) earlier
 repeated_alone corners [] = refl
@@ -89,7 +89,7 @@ of_four P h (a ∷ b ∷ []) r = absurd (omega (arith, r.0))
 of_four P h (a ∷ b ∷ c ∷ []) r = absurd (omega (arith, r.0))
 of_four P h (a ∷ b ∷ c ∷ d ∷ e ∷ more) r = absurd (omega (arith, r.0))
 
--- a list does not include another where it hasn't the first, the second or the third of its members
+-- a list that lacks one of the first three members of another does not include it
 first_out : (a b c : Bool) → a ≡ false → ((a && b) && c) ≡ false
 first_out a b c e = and_left (a && b) c (and_left a b e)
 
@@ -183,7 +183,7 @@ table_is few back e pieces are test tests cells a rows sorted z p s =
     ∙ ap (λ all. first_true 0 (along (item_passes few) [] all)) (sym (map_map pieces (λ (cell : RawCell). cell.corners) cells))
     ∙ ap (λ all. first_true 0 all) (tests (corners_of cells) corners)
 
--- the first cell that comes again
+-- the first cell that is repeated
 pub twice_is : (cells : List RawCell) → AllByRecursion (λ cell. AreCorners cell.corners) cells → (rows sorted : List (Row (List ℕ)))
     → AllZip IsRow rows (with_cell_index 0 (map (λ cell. single_piece cell.corners) cells)) → IsPermutation rows sorted
     → IsSorted (row_order (slice_cmp nat_cmp)) sorted

@@ -31,7 +31,7 @@ same_point x y z mark x' y' z' mark' p q r s =
     ap (λ (v : ℤ). record { x = x'; y = y'; z = v; mark = mark }) r in
     one ∙ (two ∙ (three ∙ ap (λ (v : ℤ). record { x = x'; y = y'; z = z'; mark = v }) s))
 
--- a row of so many attributes and markers is that of one point, whatever its number
+-- a row of n attributes and markers is that of one point, whatever its number
 pub one_point : (attributes markers k l : ℕ) (words : List (List ℕ)) (p q : Point) → IsPointRow attributes markers k words p
     → IsPointRow attributes markers l words q → p ≡ q
 one_point attributes markers k l words p q h i =

@@ -1,4 +1,4 @@
--- In sorted rows, of which no two are one, a row has the key of the row so many before it exactly where so many rows of its key
+-- In sorted rows, of which no two are one, a row has the key of the row n before it exactly where n rows of its key
 -- have lesser places.
 use Rattle.std.proofs.Common.{◌≡◌, ◌⊎◌, ℕ, zero, suc, ◌+◌, ◌-◌, ◌<◌, ◌≤◌, ◌==◌, ◌&&◌, ◌||◌, nat_lt, cond, Bool, true, false}
 use Rattle.std.proofs.Common.{List, [], ◌∷◌, length, get_or, map, drop}
@@ -160,7 +160,7 @@ before_later {K} {R} {rows} h k j d l m =
           by_place (subst (λ i. y.place ≤ (get_or rows i d).place) same (omega arith))
     ]
 
--- a row with the key of the row so many before it has so many rows before it
+-- a row with the key of the row n before it has n rows before it
 counted : {K : Type 0} {R : K → K → Ordering} {rows : List (Row K)} → AreInOrder R rows → (few i j : ℕ) (d : Row K) → i + suc few ≡ j
     → j < length rows → R (get_or rows i d).key (get_or rows j d).key ≡ Equal → few < count_by (is_before R (get_or rows j d)) rows
 counted {K} {R} {rows} h few i j d s l e =
@@ -216,7 +216,7 @@ uncounted {K} {R} {rows} h few j d l c = elim (cases_lt few j) [
 
 -- ---- the places of repeats
 
--- a row with this place that has more than so many rows before it
+-- a row with this place that has more than n rows before it
 abbrev pub has_before : {K : Type 0} → (K → K → Ordering) → ℕ → List (Row K) → ℕ → Bool
 has_before R few rows place = list_any (λ row. (row.place == place) && nat_lt few (count_by (is_before R row) rows)) rows
 
@@ -230,7 +230,7 @@ in_included {A} f p (x ∷ xs) v = go (p x) (in_included f p xs v) where
   go true e = ap (λ t. (f x == v) || t) e
   go false e = e
 
--- the pair of a row and the row so many after it
+-- the pair of a row and the row n after it
 pair_at : {A : Type 0} (xs : List A) (back i j : ℕ) (d : A) → i + back ≡ j → j < length xs
     → get_or (zip xs (drop back xs)) i (d, d) ≡ (get_or xs i d, get_or xs j d)
 pair_at xs back i j d s l =
@@ -246,7 +246,7 @@ pairs_length xs back i l = omega (arith, length-zip xs (drop back xs), length-dr
 length_of_pairs : {A : Type 0} (xs : List A) (back i : ℕ) → i + back < length xs → i < length (zip xs (drop back xs))
 length_of_pairs xs back i l = omega (arith, length-zip xs (drop back xs), length-drop back xs)
 
--- the places of repeats are those of the rows with so many rows before them
+-- the places of repeats are those of the rows with n rows before them
 pub repeats_are : {K : Type 0} {R : K → K → Ordering} {rows : List (Row K)} → AreInOrder R rows → (same : K → K → Bool)
     → ((x y : K) → same x y ≡ is_eq (R x y)) → (few back : ℕ) → back ≡ suc few → (place : ℕ)
     → is_in (repeated_indices same back rows) place ≡ has_before R few rows place

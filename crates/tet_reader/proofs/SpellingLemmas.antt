@@ -43,7 +43,7 @@ one_spelling read words others ms ns e p q =
     let okay : ℤ → Result ℤ NumberFault = λ z. Ok z in
     same_by_map okay (λ x y h. cc) ms ns (sym p ∙ (ap (map read) e ∙ q))
 
--- so many words that pass a test spell so many numbers, and words that spell numbers pass it
+-- n words that pass a test spell n numbers, and words that spell numbers pass it
 pub spell_read : (expected : Word) (read : List ℕ → Result ℤ NumberFault)
     → ((word : List ℕ) → word_test expected word ≡ None → (z : ℤ) × (read word ≡ Ok z))
     → (n : ℕ) (words : List (List ℕ)) → AllZip Passes (replicate n expected) words
@@ -71,7 +71,7 @@ spell_passes expected read item_passes (suc n) (word ∷ words) (z ∷ numbers) 
 
 -- ---- the numbers that the code reads
 
--- the numbers of so many words that spell some
+-- the numbers of n words that spell some
 pub spelled_numbers : (expected : Word) (read : List ℕ → Result ℤ NumberFault) → ((word : List ℕ) → word_value expected word ≡ read word)
     → (n : ℕ) (words : List (List ℕ)) (numbers : List ℤ) → Spell read words numbers → length words ≡ n
     → map word_number (zip (replicate n expected) words) ≡ numbers

@@ -70,7 +70,7 @@ whole_passes base rows h =
 
 -- ---- the corners of the rows are those of the cells
 
--- they are the same, and each is a cell of so many points
+-- they are the same, and each is a cell of n points
 rows_corners : (attributes points base start : ℕ) (rows : List Row) (cells : List RawCell)
     → AreNumbered (IsCellRow attributes points base) start rows cells
     → (CornersOf base rows ≡ CellCorners cells) × AllByRecursion (IsCell points) (CellCorners cells)
@@ -95,7 +95,7 @@ SomeMesh node ele =
     (base : ℕ) × (points : List Point) × (cells : List RawCell)
     × Points node.rows base points × Cells ele.rows points base cells × IsMesh (length points) (map (λ cell. cell.corners) cells)
 
--- the faults over so many points from this base
+-- the faults over n points from this base
 abbrev faults : TextRows → TextRows → ℕ → ℕ → List (Option MeshFault)
 faults node ele points base = node_fault node ∷ ele_fault points base ele ∷ whole_tests base (drop 1 ele.rows)
 

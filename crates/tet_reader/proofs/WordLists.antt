@@ -52,7 +52,7 @@ zip_size (x ∷ xs) (y ∷ ys) e = ap suc (zip_size xs ys (omega arith))
 
 -- ---- words
 
--- how many words a row should have doesn't depend on its number
+-- how many words a row should have does not depend on its number
 pub same_size : (kind : RowKind) (number : ℕ) → length (expected_words kind number) ≡ length (expected_words kind 0)
 same_size (PointRow attributes markers) number = refl
 same_size (CellRow attributes base points) number = refl

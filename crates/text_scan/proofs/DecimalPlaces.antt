@@ -52,7 +52,7 @@ after_front n (y ∷ ys) =
     ∙ one_front n (digit_value y) (10 ^ length ys) (digits_value 10 ys)
     ∙ rw pow-suc (ap (λ w. n * (10 ^ length ys * 10) + w) (sym (after_front (0 * 10 + digit_value y) ys)))
 
--- the digits of a front are digits, and so are those behind it
+-- the digits of a front are digits, and so are those after it
 pub front_passes : (p : ℕ → Bool) (n : ℕ) (xs : List ℕ) → list_all p xs ≡ true → list_all p (take n xs) ≡ true
 front_passes p zero xs h = refl
 front_passes p (suc n) [] h = refl
@@ -65,7 +65,7 @@ all_digits_behind zero ds h = h
 all_digits_behind (suc n) [] h = tt
 all_digits_behind (suc n) (d ∷ ds) h = all_digits_behind n ds h.1
 
--- FIRST PLACES: what a division by a power of ten leaves of digits, with zeros behind them
+-- FIRST PLACES: what a division by a power of ten leaves of digits, with zeros after them
 
 -- the digits without the last k
 without_last : (ds : List ℕ) (k : ℕ) → AllDigits 10 ds

@@ -20,7 +20,7 @@ one_part p (x ∷ xs) le = go (p x) refl (λ h. one_part p xs h)
         let more : slice_split p xs ≡ xs ∷ [] = h (omega (arith, at)) in
         rw (is, more) refl
 
--- an empty last part is length_without_sign behind another alone
+-- an empty last part is dropped only after another one
 last_part_after : (part : List ℕ) (parts : List (List ℕ)) → HasFirst parts → without_empty_last (part ∷ parts) ≡ part ∷ without_empty_last parts
 last_part_after [] parts h = rw h.2 refl
 last_part_after (b ∷ part) parts h = refl
@@ -32,7 +32,7 @@ last_part_only (b ∷ part) some = refl
 le_or_lt : (m n : ℕ) → (m ≤ n) ⊎ (n < m)
 le_or_lt m n = grind arith
 
--- the lines of a text that isn't empty
+-- the lines of a text that is not empty
 lines_step : (text : List ℕ) → 0 < length text → lines text ≡ before_first is_line_feed text ∷ lines (after_first is_line_feed text)
 lines_step text some = go (le_or_lt (length text) (place_of is_line_feed text))
   where
@@ -52,7 +52,7 @@ lines_step text some = go (le_or_lt (length text) (place_of is_line_feed text))
 pub left_shorter : (text after : List ℕ) → 0 < length text → after ≡ after_first is_line_feed text → length after < length text
 left_shorter text after some e = omega (arith, ap length e, length-drop (place_of is_line_feed text + 1) text)
 
--- The rows of a text, of which so many lines were read with these rows, and this text is left.
+-- The rows of a text, of which n lines were read with these rows, and this text is left.
 abbrev rows_from : ℕ → List (List ℕ) → List Row
 rows_from n ls = filter has_words (map row_of (enumerate_from n ls))
 

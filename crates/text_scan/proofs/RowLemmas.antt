@@ -33,7 +33,7 @@ some_words : (ws : List (List ℕ)) → nat_lt 0 (length ws) ≡ true → ws ≢
 some_words [] is = cc
 some_words (w ∷ ws) is = λ e. cc
 
--- parts without blanks, `#` and LF are words, where they aren't empty
+-- parts without blanks, `#` and LF are words, where they are not empty
 parts_words : (parts : List (List ℕ)) → NoneOfAny is_blank parts → NoneOfAny is_hash parts → NoneOfAny is_line_feed parts
     → AllByRecursion IsWord (filter is_nonempty parts)
 parts_words [] a b c = tt
@@ -203,7 +203,7 @@ comment_line blanks comment back h out =
     ap (λ w. filter (λ ws. nat_lt 0 (length ws)) (w ∷ map words (lines back))) (comment_words blanks comment h) in
     ap words_of parted ∙ gone
 
--- lines behind a front of lines
+-- lines after a prefix of lines
 front_lines : (text back : List ℕ)
     → words_of (lines (text ++ 10 ∷ [] ++ back)) ≡ words_of (slice_split is_line_feed text) ++ words_of (lines back)
 front_lines text back =

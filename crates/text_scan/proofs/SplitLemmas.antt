@@ -115,7 +115,7 @@ any_within p (x ∷ xs) = go (p x) (any_within p xs) where
   go true more = first_of_some (length xs)
   go false more = more ∙ one_part_more (position_or_len p xs) (length xs)
 
--- where none passes, the whole list stands before and nothing behind
+-- where none passes, the whole list stands before and nothing after
 pub all_before : (p : ℕ → Bool) (xs : List ℕ) → NonePass p xs → (xs ≡ before_first p xs) × ([] ≡ after_first p xs)
 all_before p xs none =
     let out : nat_lt (position_or_len p xs) (length xs) ≡ false = sym (any_within p xs) ∙ none in

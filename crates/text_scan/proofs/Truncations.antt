@@ -21,7 +21,7 @@ cuts_div n d pos =
 pub div_cuts : (n d q : ℕ) → Cuts n d q → n / d ≡ q
 div_cuts n d q c = div-eq_of_lt-le {k = q} d c.0 c.1
 
--- with 80 places or more to the left a number that isn't zero is past the range
+-- with 80 places or more to the left a number that is not zero is past the range
 past : (m places e : ℕ) → 1 ≤ m → places ≤ 64 → 80 ≤ e → 10 ^ 15 < m * 10 ^ e / 10 ^ places
 past m places e some few many =
     let more : 10 ^ (16 + places) ≤ 10 ^ e = pow-le-pow_right {n = 10} (omega arith) {i = 16 + places} {j = e} (omega arith) in

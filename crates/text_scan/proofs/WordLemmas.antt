@@ -14,7 +14,7 @@ place_here test b text e = rw e refl
 pub place_further : (test : ℕ → Bool) (b : ℕ) (text : List ℕ) → test b ≡ false → place_of test (b ∷ text) ≡ suc (place_of test text)
 place_further test b text e = rw e (omega arith)
 
--- blanks in front are no words, and what is left behind them begins with a word, or is nothing
+-- blanks in front are no words, and what is left after them begins with a word, or is nothing
 abbrev is_letter : ℕ → Bool
 is_letter b = not (is_blank b)
 
@@ -70,7 +70,7 @@ word_split b text is =
     ap (filter is_nonempty) parts ∙ (kept ∙ ap (λ l. (b ∷ take (place_of is_blank text) text) ∷ l) h.2) in
     ends ∙ ap (λ k. take k (b ∷ text) ∷ words_in (drop k (b ∷ text))) (sym at)
 
--- The words of a text, from the numbers that the code has: none where nothing is left behind the blanks, and else the first and those of what follows.
+-- The words of a text, from the numbers that the code has: none where nothing is left after the blanks, and else the first and those of what follows.
 pub no_words_left : (text tail : List ℕ) (n : ℕ) → n ≡ position_or_len (λ b. not (is_blank b)) text → tail ≡ drop n text → length tail ≡ 0 → words_in text ≡ []
 no_words_left text tail n at is none =
     let left : tail ≡ drop (place_of is_letter text) text = is ∙ ap (λ k. drop k text) at in
