@@ -9,7 +9,7 @@ use Rattle.liszt_tree.specs.Tree.{Expression, Body, MainItem, MainIf, Main, no_i
 use Rattle.liszt_parser.specs.Grammar.{Lexeme, lowest_rank, how_of, kind_of, mesh_set_of, open_bracket, close_bracket, colon, arrow, set_to, field_word, var_word, if_word, else_word, while_word, for_word, print_word, mesh_word, IsExpression, IsBracketed, IsBlock, IsItem, main_field, main_var, main_assign, main_if, main_while, main_for, print, IsMainBlock, IsMainElse, no_main_else, main_else}
 use Rattle.liszt_parser.specs.Internal.Reading.{Reader, SameHead, HeadIs, Is, HeadIsNot, token, token_with_value, ◌then◌}
 use Rattle.liszt_parser.specs.Internal.Sorts.{a_var, a_field, an_if, a_while, a_for, a_print, NoElse}
-use Rattle.liszt_parser.specs.Internal.Productions.{brackets, blocks, closed, declaration, main_items, main_blocks, main_elses, fields_tree, main_variables_tree, main_assignments_tree, main_branches_tree, main_repetitions_tree, comprehensions_tree, prints_tree}
+use Rattle.liszt_parser.specs.Internal.Productions.{brackets, blocks, closed_expression, declaration, main_items, main_blocks, main_elses, fields_tree, main_variables_tree, main_assignments_tree, main_branches_tree, main_repetitions_tree, comprehensions_tree, prints_tree}
 use Rattle.liszt_parser.proofs.Sorts.{sort_var, sort_field, sort_if, sort_while, sort_for, sort_print, clash}
 use Rattle.liszt_parser.proofs.OneTree.{item_sort, item_begins}
 use Rattle.liszt_parser.proofs.Readers.{Becomes, head_by, same_back}
@@ -17,7 +17,7 @@ use Rattle.liszt_parser.proofs.HeadLemmas.{head_sorted, not_else}
 use Rattle.liszt_parser.proofs.StatementProductions.{declared_into, declared_out, declared_first}
 
 abbrev pub fielded : Reader (Lexeme × (Lexeme × (Lexeme × ((Lexeme × Kind) × (Lexeme × Expression)))))
-fielded = token field_word then token NameToken then token colon then token_with_value kind_of then token set_to then closed
+fielded = token field_word then token NameToken then token colon then token_with_value kind_of then token set_to then closed_expression
 
 pub field_becomes : (ts : List Lexeme) → HeadIs (Is field_word) ts → Becomes main_items fielded fields_tree ts
 field_becomes ts first =
@@ -30,7 +30,7 @@ field_becomes ts first =
     into : (us left m₁ m₂ m₃ m₄ m₅ : List Lexeme) (x : Lexeme × (Lexeme × (Lexeme × ((Lexeme × Kind) × (Lexeme × Expression)))))
         → (us ≡ x.0 ∷ m₁) × (x.0.kind ≡ field_word) → (m₁ ≡ x.1.0 ∷ m₂) × (x.1.0.kind ≡ NameToken) → (m₂ ≡ x.1.1.0 ∷ m₃) × (x.1.1.0.kind ≡ colon)
         → (m₃ ≡ x.1.1.1.0.0 ∷ m₄) × (kind_of x.1.1.1.0.0.kind ≡ Some x.1.1.1.0.1) → (m₄ ≡ x.1.1.1.1.0 ∷ m₅) × (x.1.1.1.1.0.kind ≡ set_to)
-        → closed.reads m₅ x.1.1.1.1.1 left → IsItem us (fields_tree x) left
+        → closed_expression.reads m₅ x.1.1.1.1.1 left → IsItem us (fields_tree x) left
     into us left m₁ m₂ m₃ m₄ m₅ x h hn hc hk hs c =
         subst (λ z. IsItem z (fields_tree x) left)
         (sym (h.0 ∙ ap (λ z. x.0 ∷ z) (hn.0 ∙ ap (λ z. x.1.0 ∷ z) (hc.0 ∙ ap (λ z. x.1.1.0 ∷ z) (hk.0 ∙ ap (λ z. x.1.1.1.0.0 ∷ z) hs.0)))))
@@ -82,7 +82,7 @@ main_var_becomes ts first =
 
 -- ASSIGNMENTS, where no other item begins
 abbrev pub main_assigned : Reader (Lexeme × ((Lexeme × How) × Expression))
-main_assigned = token NameToken then token_with_value how_of then closed
+main_assigned = token NameToken then token_with_value how_of then closed_expression
 
 pub main_assign_becomes : (ts : List Lexeme) → HeadIsNot (Is field_word) ts → HeadIsNot (Is var_word) ts → HeadIsNot (Is if_word) ts
     → HeadIsNot (Is while_word) ts → HeadIsNot (Is for_word) ts → HeadIsNot (Is print_word) ts
@@ -95,7 +95,7 @@ main_assign_becomes ts no_field no_var no_if no_while no_for no_print =
     }
   where
     into : (us left mid mid' : List Lexeme) (x : Lexeme × ((Lexeme × How) × Expression)) → (us ≡ x.0 ∷ mid) × (x.0.kind ≡ NameToken)
-        → (mid ≡ x.1.0.0 ∷ mid') × (how_of x.1.0.0.kind ≡ Some x.1.0.1) → closed.reads mid' x.1.1 left → IsItem us (main_assignments_tree x) left
+        → (mid ≡ x.1.0.0 ∷ mid') × (how_of x.1.0.0.kind ≡ Some x.1.0.1) → closed_expression.reads mid' x.1.1 left → IsItem us (main_assignments_tree x) left
     into us left mid mid' x hn hh c =
         subst (λ z. IsItem z (main_assignments_tree x) left) (sym (hn.0 ∙ ap (λ z. x.0 ∷ z) hh.0))
         (main_assign x.0 x.1.0.0 hn.1 hh.1 (subst (λ z. IsExpression lowest_rank mid' z c.1.0) (sym c.2) c.1.1) c.1.2)
@@ -237,7 +237,7 @@ main_for_becomes ts first =
     out other left e h d = clash a_for (item_sort d) (head_sorted for_word other h ∙ sort_for refl) (item_begins d) refl
 
 abbrev pub printed : Reader (Lexeme × Expression)
-printed = token print_word then closed
+printed = token print_word then closed_expression
 
 pub print_becomes : (ts : List Lexeme) → HeadIs (Is print_word) ts → Becomes main_items printed prints_tree ts
 print_becomes ts first =
@@ -247,7 +247,7 @@ print_becomes ts first =
       fits = λ left other h. h;
     }
   where
-    into : (us left mid : List Lexeme) (x : Lexeme × Expression) → (us ≡ x.0 ∷ mid) × (x.0.kind ≡ print_word) → closed.reads mid x.1 left
+    into : (us left mid : List Lexeme) (x : Lexeme × Expression) → (us ≡ x.0 ∷ mid) × (x.0.kind ≡ print_word) → closed_expression.reads mid x.1 left
         → IsItem us (prints_tree x) left
     into us left mid x h c =
         subst (λ z. IsItem z (prints_tree x) left) (sym h.0) (print x.0 h.1 (subst (λ z. IsExpression lowest_rank mid z c.1.0) (sym c.2) c.1.1) c.1.2)

@@ -9,7 +9,7 @@ use Rattle.liszt_tree.specs.Tree.{MainItem, MainAssign, Main, no_item, item}
 use Rattle.liszt_parser.specs.Grammar.{Lexeme, lowest_rank, how_of, kind_of, mesh_set_of, open_bracket, close_bracket, open_brace, close_brace, semicolon, colon, arrow, set_to, field_word, if_word, else_word, while_word, for_word, print_word, mesh_word, by_semicolon, IsItem, main_assign, IsMain, no_items, items, IsMainBlock, main_block}
 use Rattle.liszt_parser.specs.Internal.Reading.{SameHead, IsRead, Fails, HeadIs, Is, token, token_with_value, ◌then◌, mapped_reader}
 use Rattle.liszt_parser.specs.Internal.Sorts.{Ends}
-use Rattle.liszt_parser.specs.Internal.Productions.{brackets, blocks, closed, main_items, mains, main_blocks, main_elses}
+use Rattle.liszt_parser.specs.Internal.Productions.{brackets, blocks, closed_expression, main_items, mains, main_blocks, main_elses}
 use Rattle.liszt_parser.proofs.Sorts.{sort_end}
 use Rattle.liszt_parser.proofs.OneTree.{one_item, one_main, one_main_block, main_no_else}
 use Rattle.liszt_parser.proofs.Readers.{Lawful, Behind, Loose, Becomes, same_back, then_lawful, then_read, mapped_lawful}
@@ -130,22 +130,22 @@ pub main_read : Lawful (token close_brace) → (ts mid left : List Lexeme) (e : 
 main_read law ts mid left e x d k = then_read mains_lawful law close_mains ts mid left e x d k
 
 -- WHAT IS LEFT to read at each step
-pub kind_set : Lawful (token_with_value kind_of then token set_to then closed)
+pub kind_set : Lawful (token_with_value kind_of then token set_to then closed_expression)
 kind_set = part_lawful kind_part set_closed
 
-pub colon_kind : Lawful (token colon then token_with_value kind_of then token set_to then closed)
+pub colon_kind : Lawful (token colon then token_with_value kind_of then token set_to then closed_expression)
 colon_kind = part_lawful (token_part colon) kind_set
 
-pub name_colon : Lawful (token NameToken then token colon then token_with_value kind_of then token set_to then closed)
+pub name_colon : Lawful (token NameToken then token colon then token_with_value kind_of then token set_to then closed_expression)
 name_colon = part_lawful (token_part NameToken) colon_kind
 
-pub field_lawful : Lawful (token field_word then token NameToken then token colon then token_with_value kind_of then token set_to then closed)
+pub field_lawful : Lawful (token field_word then token NameToken then token colon then token_with_value kind_of then token set_to then closed_expression)
 field_lawful = part_lawful (token_part field_word) name_colon
 
-pub main_assignment_lawful : Lawful (token NameToken then token_with_value how_of then closed)
+pub main_assignment_lawful : Lawful (token NameToken then token_with_value how_of then closed_expression)
 main_assignment_lawful = part_lawful (token_part NameToken) how_closed
 
-pub print_lawful : Lawful (token print_word then closed)
+pub print_lawful : Lawful (token print_word then closed_expression)
 print_lawful = part_lawful (token_part print_word) closed_lawful
 
 pub main_else_lawful : Lawful (token else_word then main_blocks)

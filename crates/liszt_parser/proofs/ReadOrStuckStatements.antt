@@ -4,7 +4,7 @@ use Rattle.liszt_lexer.specs.declared.token.TokenKind.{TokenKind}
 use Rattle.liszt_lexer.specs.declared.token.TokenKind.TheVariants.{Name as NameToken}
 use Rattle.liszt_tree.specs.Tree.{Statement, Var, Val, Assign, If, While, For, no_statement, statement_nodes}
 use Rattle.liszt_parser.specs.Grammar.{Lexeme, lowest_rank, how_of, set_of, open_bracket, close_bracket, open_brace, close_brace, semicolon, arrow, set_to, var_word, val_word, if_word, else_word, while_word, for_word}
-use Rattle.liszt_parser.specs.Internal.Productions.{expressions, arguments, brackets, closings, closed, closed_tree, declaration, declaration_parts, elses, statements, bodies, blocks, EndFits}
+use Rattle.liszt_parser.specs.Internal.Productions.{expressions, arguments, brackets, closings, closed_expression, closed_tree, declaration, declaration_parts, elses, statements, bodies, blocks, EndFits}
 use Rattle.liszt_parser.specs.Internal.Reading.{Reader, IsRead, HeadIs, HeadIsNot, Is, token, token_with_value, ◌then◌}
 use Rattle.liszt_parser.specs.Internal.Sorts.{Ends, NoElse, an_end, an_else}
 use Rattle.liszt_parser.proofs.ClosingLemmas.{semicolon_read, end_read, nothing_closes}
@@ -35,14 +35,14 @@ known_closings (t ∷ ts) = go (decide_kind t.kind semicolon) where
   go (inl e) = inl (tt, ts, semicolon_read t (t ∷ ts) ts refl e)
   go (inr n) = ends n (decide_kind t.kind close_brace)
 
-pub known_closed : (ts : List Lexeme) → ReadOrStuck closed ts
+pub known_closed : (ts : List Lexeme) → ReadOrStuck closed_expression ts
 known_closed ts =
     known_mapped (expressions lowest_rank then closings) closed_tree ts
     (known_then (expressions_lawful lowest_rank) closings_lawful closings_after (loose lowest_rank closings) ts (known_expression lowest_rank ts) (λ left le h. known_closings left))
 
 pub known_declared : (word : TokenKind) (ts : List Lexeme) → ReadOrStuck (declaration word) ts
 known_declared word ts =
-    known_mapped (token word then token NameToken then token set_to then closed) declaration_parts ts
+    known_mapped (token word then token NameToken then token set_to then closed_expression) declaration_parts ts
     (known_after word name_set ts (λ left less. known_after NameToken set_closed left (λ mid fewer. known_after set_to closed_lawful mid (λ next least. known_closed next))))
 
 -- WHERE A LIST OF STATEMENTS ENDS, and where no `else` follows
@@ -160,7 +160,7 @@ known_for n k ts lt h =
     known_headed close_block n e (omega arith) (λ f least'.
     known_after close_bracket blocks_lawful f (λ g last. known_block n k g (omega arith)))))))))
 
-argument_loose : Loose arguments (token_with_value how_of then closed)
+argument_loose : Loose arguments (token_with_value how_of then closed_expression)
 unfolding Loose
 argument_loose mid other left x d h = tt
 

@@ -9,7 +9,7 @@ use Rattle.liszt_tree.specs.Tree.{Expression, Statement, Assign, If, Body, no_st
 use Rattle.liszt_parser.specs.Grammar.{Lexeme, lowest_rank, how_of, set_of, open_bracket, close_bracket, arrow, set_to, var_word, val_word, if_word, else_word, while_word, for_word, IsExpression, IsBracketed, IsDeclared, is_declared, IsTarget, no_target, target, IsStatement, var, val, assign, if, while, for, IsBlock, IsElse, no_else, else}
 use Rattle.liszt_parser.specs.Internal.Reading.{Reader, SameHead, HeadIs, Is, HeadIsNot, token, token_with_value, ◌then◌, ReadsOptional}
 use Rattle.liszt_parser.specs.Internal.Sorts.{a_var, a_val, an_if, a_while, a_for, NoElse}
-use Rattle.liszt_parser.specs.Internal.Productions.{brackets, arguments, statements, blocks, closed, declaration, elses, variables_tree, constants_tree, assignments_tree, branches_tree, repetitions_tree, set_loops_tree}
+use Rattle.liszt_parser.specs.Internal.Productions.{brackets, arguments, statements, blocks, closed_expression, declaration, elses, variables_tree, constants_tree, assignments_tree, branches_tree, repetitions_tree, set_loops_tree}
 use Rattle.liszt_parser.proofs.Sorts.{sort_var, sort_val, sort_if, sort_while, sort_for, clash}
 use Rattle.liszt_parser.proofs.OneStatement.{statement_sort, statement_begins}
 use Rattle.liszt_parser.proofs.Readers.{Becomes, head_by, same_back}
@@ -23,7 +23,7 @@ declared_into word us left x d =
     (go us left d.1.0 d.1.2.0 d.1.2.2.0 d.0.0 d.0.1.0 d.0.1.1.0 d.0.1.1.1 d.1.1 d.1.2.1 d.1.2.2.1 d.1.2.2.2)
   where
     go : (us left mid mid' mid'' : List Lexeme) (w n s : Lexeme) (e : Expression) → (us ≡ w ∷ mid) × (w.kind ≡ word)
-        → (mid ≡ n ∷ mid') × (n.kind ≡ NameToken) → (mid' ≡ s ∷ mid'') × (s.kind ≡ set_to) → closed.reads mid'' e left
+        → (mid ≡ n ∷ mid') × (n.kind ≡ NameToken) → (mid' ≡ s ∷ mid'') × (s.kind ≡ set_to) → closed_expression.reads mid'' e left
         → IsDeclared word us w n e left
     go us left mid mid' mid'' w n s e h hn hs c =
         subst (λ z. IsDeclared word z w n e left) (sym (h.0 ∙ ap (λ z. w ∷ z) (hn.0 ∙ ap (λ z. n ∷ z) hs.0)))
@@ -65,7 +65,7 @@ val_becomes ts first =
 
 -- ASSIGNMENTS, where no other statement begins
 abbrev pub assigned : Reader (Lexeme × (Option Expression × ((Lexeme × How) × Expression)))
-assigned = token NameToken then arguments then token_with_value how_of then closed
+assigned = token NameToken then arguments then token_with_value how_of then closed_expression
 
 pub assign_becomes : (ts : List Lexeme) → HeadIsNot (Is var_word) ts → HeadIsNot (Is val_word) ts → HeadIsNot (Is if_word) ts
     → HeadIsNot (Is while_word) ts → HeadIsNot (Is for_word) ts → Becomes statements assigned assignments_tree ts
@@ -77,7 +77,7 @@ assign_becomes ts no_var no_val no_if no_while no_for =
     }
   where
     into : (us left mid mid' mid'' : List Lexeme) (n h : Lexeme) (to : Option Expression) (how : How) (e : Expression) → (us ≡ n ∷ mid) × (n.kind ≡ NameToken)
-        → ReadsOptional brackets mid to mid' → (mid' ≡ h ∷ mid'') × (how_of h.kind ≡ Some how) → closed.reads mid'' e left
+        → ReadsOptional brackets mid to mid' → (mid' ≡ h ∷ mid'') × (how_of h.kind ≡ Some how) → closed_expression.reads mid'' e left
         → IsStatement us (Assign n.place n.bytes to how e) left
     into us left mid mid' mid'' n h to how e hn t hh c =
         subst (λ z. IsStatement z (Assign n.place n.bytes to how e) left) (sym hn.0)

@@ -11,7 +11,7 @@ use Rattle.liszt_tree.specs.Tree.{Expression, Statement, Assign, Body, no_statem
 use Rattle.liszt_parser.specs.Grammar.{Lexeme, lowest_rank, how_of, set_of, open_bracket, close_bracket, open_brace, close_brace, semicolon, arrow, set_to, if_word, else_word, while_word, for_word, by_semicolon, no_target, IsStatement, assign, IsBody, no_statements, statements as statements_of, IsBlock, block}
 use Rattle.liszt_parser.specs.Internal.Reading.{SameHead, IsRead, Fails, HeadIs, Is, token, token_with_value, ◌then◌, mapped_reader}
 use Rattle.liszt_parser.specs.Internal.Sorts.{Ends}
-use Rattle.liszt_parser.specs.Internal.Productions.{expressions, brackets, arguments, closings, statements, bodies, blocks, closed, closed_tree, elses}
+use Rattle.liszt_parser.specs.Internal.Productions.{expressions, brackets, arguments, closings, statements, bodies, blocks, closed_expression, closed_tree, elses}
 use Rattle.liszt_parser.proofs.Sorts.{closes_stops, sort_end}
 use Rattle.liszt_parser.proofs.OneStatement.{one_closing, one_statement, one_body, one_block, body_no_else}
 use Rattle.liszt_parser.proofs.Readers.{Lawful, Behind, Loose, Becomes, same_back, then_lawful, then_read, mapped_lawful}
@@ -40,7 +40,7 @@ closings_after = record { stops = λ mid left x d stop. closes_stops d; fits = �
 pub closed_parts_lawful : Lawful (expressions lowest_rank then closings)
 closed_parts_lawful = then_lawful (expressions_lawful lowest_rank) closings_lawful closings_after
 
-pub closed_lawful : Lawful closed
+pub closed_lawful : Lawful closed_expression
 closed_lawful = mapped_lawful closed_tree closed_parts_lawful
 
 pub how_lawful : Lawful (token_with_value how_of)
@@ -135,19 +135,19 @@ block_becomes ts = record { into = λ us left x d. into us left d.0 d.2.0 x.0 x.
     out other left e (block {ts = us} o c h d h') = ((o, (e, c)), (us, (refl, h), (c ∷ left, d, (refl, h'))), tt, refl)
 
 -- WHAT IS LEFT to read at each step
-pub set_closed : Lawful (token set_to then closed)
+pub set_closed : Lawful (token set_to then closed_expression)
 set_closed = part_lawful (token_part set_to) closed_lawful
 
-pub name_set : Lawful (token NameToken then token set_to then closed)
+pub name_set : Lawful (token NameToken then token set_to then closed_expression)
 name_set = part_lawful (token_part NameToken) set_closed
 
-pub declared_lawful : (word : TokenKind) → Lawful (token word then token NameToken then token set_to then closed)
+pub declared_lawful : (word : TokenKind) → Lawful (token word then token NameToken then token set_to then closed_expression)
 declared_lawful word = part_lawful (token_part word) name_set
 
-pub how_closed : Lawful (token_with_value how_of then closed)
+pub how_closed : Lawful (token_with_value how_of then closed_expression)
 how_closed = part_lawful how_part closed_lawful
 
-pub argument_how : Behind arguments (token_with_value how_of then closed)
+pub argument_how : Behind arguments (token_with_value how_of then closed_expression)
 argument_how = record { stops = λ mid left x d stop. (λ h. open_no_how mid x.0.0 d.0 x.0.1 d.1.0 d.1.1 h, tt); fits = λ mid other x d h. tt }
   where
     no_how : (kind : TokenKind) → kind ≡ Symbol 0 → how_of kind ≡ None
@@ -157,10 +157,10 @@ argument_how = record { stops = λ mid left x d stop. (λ h. open_no_how mid x.0
         → HeadIs (Is (Symbol 0)) mid → ⊥
     open_no_how mid t left how e h first = let is = no_how t.kind (subst (HeadIs (Is (Symbol 0))) e first) in cc
 
-pub argument_closed : Lawful (arguments then token_with_value how_of then closed)
+pub argument_closed : Lawful (arguments then token_with_value how_of then closed_expression)
 argument_closed = then_lawful arguments_lawful how_closed argument_how
 
-pub assignment_lawful : Lawful (token NameToken then arguments then token_with_value how_of then closed)
+pub assignment_lawful : Lawful (token NameToken then arguments then token_with_value how_of then closed_expression)
 assignment_lawful = part_lawful (token_part NameToken) argument_closed
 
 else_first : IsProgramPrefix (Is else_word) (mapped_reader (λ x. x.1) (token else_word then blocks))
@@ -178,16 +178,16 @@ block_elses = part_lawful blocks_part elses_lawful
 
 -- the steps after a target, and after the body of a block
 pub argument_fails : (ts : List Lexeme) (at : ℕ) (refused : Refused ℕ) → Fails arguments ts at refused
-    → Fails (arguments then token_with_value how_of then closed) ts at refused
+    → Fails (arguments then token_with_value how_of then closed_expression) ts at refused
 argument_fails ts at refused h = first_fails how_closed argument_how ts at refused h
 
 pub argument_then : (ts : List Lexeme) (at mid : ℕ) (e : Option Expression) (refused : Refused ℕ) → IsRead arguments (drop at ts) e (drop mid ts)
-    → Fails (token_with_value how_of then closed) ts mid refused → Fails (arguments then token_with_value how_of then closed) ts at refused
+    → Fails (token_with_value how_of then closed_expression) ts mid refused → Fails (arguments then token_with_value how_of then closed_expression) ts at refused
 unfolding Loose
 argument_then ts at mid e refused d h = second_fails arguments_lawful argument_how (λ mid other left x k n. tt) ts at mid e refused d h
 
-pub argument_read : Lawful (token_with_value how_of then closed) → (ts mid left : List Lexeme) (e : Option Expression) (x : (Lexeme × How) × Expression)
-    → IsRead arguments ts e mid → IsRead (token_with_value how_of then closed) mid x left → IsRead (arguments then token_with_value how_of then closed) ts (e, x) left
+pub argument_read : Lawful (token_with_value how_of then closed_expression) → (ts mid left : List Lexeme) (e : Option Expression) (x : (Lexeme × How) × Expression)
+    → IsRead arguments ts e mid → IsRead (token_with_value how_of then closed_expression) mid x left → IsRead (arguments then token_with_value how_of then closed_expression) ts (e, x) left
 argument_read law ts mid left e x d k = then_read arguments_lawful law argument_how ts mid left e x d k
 
 pub body_fails : (ts : List Lexeme) (at : ℕ) (refused : Refused ℕ) → Fails bodies ts at refused → Fails (bodies then token close_brace) ts at refused

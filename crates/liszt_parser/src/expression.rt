@@ -93,7 +93,7 @@ fn comparison(source: &Source, at: usize) -> Parsed<Expr>
     ensures { Outcome 1 (expressions comparison_rank) tree (source_lexemes source.now) at result }
 {
     let (left, at) = chain(source, at, Level::Sum)?;
-    let (second, at) = compared(source, at)?;
+    let (second, at) = comparison_tail(source, at)?;
     let Some((token, rel, right)) = second else {
         return Ok((left, at));
     };
@@ -112,7 +112,7 @@ fn comparison(source: &Source, at: usize) -> Parsed<Expr>
 
 /// The comparison operator and the second sum, if any. A comparison is not compared.
 #[cycle(expression)]
-fn compared(source: &Source, at: usize) -> Parsed<Option<(Token, Rel, Expr)>>
+fn comparison_tail(source: &Source, at: usize) -> Parsed<Option<(Token, Rel, Expr)>>
     requires within { at ≤ length (source_lexemes source.now) }
     requires stops { Stops (chain_rank Sum) (drop at (source_lexemes source.now)) }
     ensures { Outcome 0 seconds (option_map (λ x. ((source_lexeme source.now x.0, x.1), tree x.2)))
@@ -205,7 +205,7 @@ fn value(source: &Source, at: usize) -> Parsed<Expr>
         return towards(source, at);
     }
     if source.is(at, OPEN_BRACKET) {
-        return bracketed(source, at);
+        return bracketed_expression(source, at);
     }
     match fun(source, at) {
         Some(_) => call(source, at),
@@ -256,7 +256,7 @@ pub(crate) fn argument(source: &Source, at: usize) -> Parsed<Option<Expr>>
     if !source.is(at, OPEN_BRACKET) {
         return Ok((None, at));
     }
-    let (e, end) = bracketed(source, at)?;
+    let (e, end) = bracketed_expression(source, at)?;
     if source.is(end, OPEN_BRACKET) {
         return Err(Refused::Fault(end));
     }
@@ -272,7 +272,7 @@ fn call(source: &Source, at: usize) -> Parsed<Expr>
     let Some(((token, fun), at)) = fun(source, at) else {
         return Err(Refused::Fault(at));
     };
-    let (arg, at) = bracketed(source, at)?;
+    let (arg, at) = bracketed_expression(source, at)?;
     let arg = source.boxed(arg)?;
     Ok((
         Expr::Call {
@@ -310,7 +310,7 @@ fn towards(source: &Source, at: usize) -> Parsed<Expr>
 
 /// An expression in brackets.
 #[cycle(expression)]
-pub(crate) fn bracketed(source: &Source, at: usize) -> Parsed<Expr>
+pub(crate) fn bracketed_expression(source: &Source, at: usize) -> Parsed<Expr>
     requires { at ≤ length (source_lexemes source.now) }
     ensures { Outcome 1 brackets tree (source_lexemes source.now) at result }
 {

@@ -8,13 +8,13 @@ ghost use Rattle.liszt_parser.specs.Internal.Reading.{Outcome, Settled};
 ghost use Rattle.liszt_parser.specs.Internal.Sources.{source_lexemes};
 
 use crate::choices::{how, kind, mesh_set};
-use crate::expression::bracketed;
+use crate::expression::bracketed_expression;
 use crate::kinds::{
     ARROW, CLOSE_BRACE, CLOSE_BRACKET, COLON, ELSE, FIELD, FOR, IF, MESH, OPEN_BRACE, OPEN_BRACKET,
     PRINT, SET_TO, VAR, WHILE,
 };
 use crate::source::{Parsed, Source};
-use crate::statement::{block, closed, declaration, ends};
+use crate::statement::{block, closed_expression, declaration, ends};
 use crate::tokens::push;
 use liszt_base::Refused;
 use liszt_lexer::TokenKind;
@@ -73,7 +73,7 @@ fn field(source: &Source, at: usize) -> Parsed<Item>
         return Err(Refused::Fault(at));
     };
     let (_, at) = source.expect(at, SET_TO)?;
-    let (init, end) = closed(source, at)?;
+    let (init, end) = closed_expression(source, at)?;
     let (place, at, name) = (word.place, name.place, source.name(name)?);
     Ok((
         Item::Field {
@@ -114,7 +114,7 @@ fn assignment(source: &Source, at: usize) -> Parsed<Item>
     let Some(((_, how), at)) = how(source, at) else {
         return Err(Refused::Fault(at));
     };
-    let (value, at) = closed(source, at)?;
+    let (value, at) = closed_expression(source, at)?;
     let (place, name) = (word.place, source.name(word)?);
     Ok((
         Item::Assign {
@@ -133,7 +133,7 @@ fn output(source: &Source, at: usize) -> Parsed<Item>
     ensures { Outcome 1 prints item_tree (source_lexemes source.now) at result }
 {
     let (word, at) = source.expect(at, PRINT)?;
-    let (value, at) = closed(source, at)?;
+    let (value, at) = closed_expression(source, at)?;
     Ok((
         Item::Print {
             place: word.place,
@@ -150,9 +150,9 @@ fn conditional(source: &Source, at: usize) -> Parsed<Item>
     ensures { Outcome 1 main_branches item_tree (source_lexemes source.now) at result }
 {
     let (word, at) = source.expect(at, IF)?;
-    let (test, at) = bracketed(source, at)?;
+    let (test, at) = bracketed_expression(source, at)?;
     let (yes, at) = main_block(source, at)?;
-    let (no, at) = otherwise(source, at)?;
+    let (no, at) = else_block(source, at)?;
     let place = word.place;
     match no {
         None => {
@@ -183,7 +183,7 @@ fn conditional(source: &Source, at: usize) -> Parsed<Item>
 
 /// An `else` and its block, if there is one. No `else` follows it.
 #[cycle(item)]
-fn otherwise(source: &Source, at: usize) -> Parsed<Option<ItemList>>
+fn else_block(source: &Source, at: usize) -> Parsed<Option<ItemList>>
     requires { at ≤ length (source_lexemes source.now) }
     ensures { Outcome 0 main_elses (option_map (λ b. main_of (map item_tree b)))
         (source_lexemes source.now) at result }
@@ -206,7 +206,7 @@ fn repetition(source: &Source, at: usize) -> Parsed<Item>
     ensures { Outcome 1 main_repetitions item_tree (source_lexemes source.now) at result }
 {
     let (word, at) = source.expect(at, WHILE)?;
-    let (test, at) = bracketed(source, at)?;
+    let (test, at) = bracketed_expression(source, at)?;
     let (body, at) = main_block(source, at)?;
     Ok((
         Item::While {

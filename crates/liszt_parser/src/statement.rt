@@ -10,7 +10,7 @@ ghost use Rattle.liszt_parser.specs.Internal.TokenBounds.{IsInText};
 ghost use Rattle.liszt_parser.specs.Internal.Sources.{source_lexemes, source_lexeme};
 
 use crate::choices::{how, set};
-use crate::expression::{argument, bracketed, expression};
+use crate::expression::{argument, bracketed_expression, expression};
 use crate::kinds::{
     ARROW, CLOSE_BRACE, CLOSE_BRACKET, ELSE, FOR, IF, OPEN_BRACE, OPEN_BRACKET, SEMICOLON, SET_TO,
     VAL, VAR, WHILE,
@@ -46,9 +46,9 @@ fn closing(source: &Source, at: usize) -> Parsed<()>
 }
 
 /// An expression and the end of the statement.
-pub(crate) fn closed(source: &Source, at: usize) -> Parsed<Expr>
+pub(crate) fn closed_expression(source: &Source, at: usize) -> Parsed<Expr>
     requires { at ≤ length (source_lexemes source.now) }
-    ensures { Outcome 1 Productions.closed tree (source_lexemes source.now) at result }
+    ensures { Outcome 1 Productions.closed_expression tree (source_lexemes source.now) at result }
 {
     let (e, at) = expression(source, at)?;
     let ((), at) = closing(source, at)?;
@@ -70,7 +70,7 @@ pub(crate) fn declaration(
     let (word, at) = source.expect(at, word)?;
     let (name, at) = source.expect(at, TokenKind::Name)?;
     let (_, at) = source.expect(at, SET_TO)?;
-    let (init, at) = closed(source, at)?;
+    let (init, at) = closed_expression(source, at)?;
     Ok(((word, name, init), at))
 }
 
@@ -157,7 +157,7 @@ fn assignment(source: &Source, at: usize) -> Parsed<Stmt>
     let Some(((_, how), at)) = how(source, at) else {
         return Err(Refused::Fault(at));
     };
-    let (value, at) = closed(source, at)?;
+    let (value, at) = closed_expression(source, at)?;
     let (place, name) = (word.place, source.name(word)?);
     Ok((
         Stmt::Assign {
@@ -178,9 +178,9 @@ fn conditional(source: &Source, at: usize) -> Parsed<Stmt>
     ensures { Outcome 1 branches statement_tree (source_lexemes source.now) at result }
 {
     let (word, at) = source.expect(at, IF)?;
-    let (test, at) = bracketed(source, at)?;
+    let (test, at) = bracketed_expression(source, at)?;
     let (yes, at) = block(source, at)?;
-    let (no, at) = otherwise(source, at)?;
+    let (no, at) = else_block(source, at)?;
     let place = word.place;
     match no {
         None => {
@@ -211,7 +211,7 @@ fn conditional(source: &Source, at: usize) -> Parsed<Stmt>
 
 /// An `else` and its block, if there is one. No `else` follows it.
 #[cycle(statement)]
-fn otherwise(source: &Source, at: usize) -> Parsed<Option<StmtList>>
+fn else_block(source: &Source, at: usize) -> Parsed<Option<StmtList>>
     requires { at ≤ length (source_lexemes source.now) }
     ensures { Outcome 0 elses (option_map (λ b. body_of (map statement_tree b)))
         (source_lexemes source.now) at result }
@@ -234,7 +234,7 @@ fn repetition(source: &Source, at: usize) -> Parsed<Stmt>
     ensures { Outcome 1 repetitions statement_tree (source_lexemes source.now) at result }
 {
     let (word, at) = source.expect(at, WHILE)?;
-    let (test, at) = bracketed(source, at)?;
+    let (test, at) = bracketed_expression(source, at)?;
     let (body, at) = block(source, at)?;
     Ok((
         Stmt::While {
@@ -259,7 +259,7 @@ fn set_loop(source: &Source, at: usize) -> Parsed<Stmt>
     let Some(((of, set), at)) = set(source, at) else {
         return Err(Refused::Fault(at));
     };
-    let (arg, at) = bracketed(source, at)?;
+    let (arg, at) = bracketed_expression(source, at)?;
     let (_, at) = source.expect(at, CLOSE_BRACKET)?;
     let (body, end) = block(source, at)?;
     let (place, at, set_at) = (word.place, name.place, of.place);

@@ -120,15 +120,15 @@ numbers = mapped_reader numbers_tree (token_with_value number_of)
 abbrev pub closed_tree : Expression × ⊤ → Expression
 closed_tree x = x.0
 
-abbrev pub closed : Reader Expression
-closed = mapped_reader closed_tree (expressions lowest_rank then closings)
+abbrev pub closed_expression : Reader Expression
+closed_expression = mapped_reader closed_tree (expressions lowest_rank then closings)
 
 -- The word, the name and the initial expression of a declaration.
 abbrev pub declaration_parts : Lexeme × (Lexeme × (Lexeme × Expression)) → Lexeme × (Lexeme × Expression)
 declaration_parts x = (x.0, (x.1.0, x.1.1.1))
 
 abbrev pub declaration : TokenKind → Reader (Lexeme × (Lexeme × Expression))
-declaration word = mapped_reader declaration_parts (token word then token NameToken then token set_to then closed)
+declaration word = mapped_reader declaration_parts (token word then token NameToken then token set_to then closed_expression)
 
 abbrev pub variables_tree : Lexeme × (Lexeme × Expression) → Statement
 variables_tree x = Var x.0.place x.1.0.bytes x.1.0.place x.1.1
@@ -146,7 +146,7 @@ abbrev pub assignments_tree : Lexeme × (Option Expression × ((Lexeme × How) �
 assignments_tree x = Assign x.0.place x.0.bytes x.1.0 x.1.1.0.1 x.1.1.1
 
 abbrev pub assignments : Reader Statement
-assignments = mapped_reader assignments_tree (token NameToken then arguments then token_with_value how_of then closed)
+assignments = mapped_reader assignments_tree (token NameToken then arguments then token_with_value how_of then closed_expression)
 
 -- An `if` with the block of its `else`, if any.
 abbrev pub if_of : Lexeme → Expression → Body → Option Body → Statement
@@ -182,7 +182,7 @@ abbrev pub fields_tree : Lexeme × (Lexeme × (Lexeme × ((Lexeme × Kind) × (L
 fields_tree x = MainField x.0.place x.1.0.bytes x.1.0.place x.1.1.1.0.1 x.1.1.1.1.1
 
 abbrev pub fields : Reader MainItem
-fields = mapped_reader fields_tree (token field_word then token NameToken then token colon then token_with_value kind_of then token set_to then closed)
+fields = mapped_reader fields_tree (token field_word then token NameToken then token colon then token_with_value kind_of then token set_to then closed_expression)
 
 abbrev pub main_variables_tree : Lexeme × (Lexeme × Expression) → MainItem
 main_variables_tree x = MainVar x.0.place x.1.0.bytes x.1.0.place x.1.1
@@ -194,7 +194,7 @@ abbrev pub main_assignments_tree : Lexeme × ((Lexeme × How) × Expression) →
 main_assignments_tree x = MainAssign x.0.place x.0.bytes x.1.0.1 x.1.1
 
 abbrev pub main_assignments : Reader MainItem
-main_assignments = mapped_reader main_assignments_tree (token NameToken then token_with_value how_of then closed)
+main_assignments = mapped_reader main_assignments_tree (token NameToken then token_with_value how_of then closed_expression)
 
 abbrev pub main_if_of : Lexeme → Expression → Main → Option Main → MainItem
 main_if_of w test first None = MainIf w.place test first no_item false
@@ -229,4 +229,4 @@ abbrev pub prints_tree : Lexeme × Expression → MainItem
 prints_tree x = Print x.0.place x.1
 
 abbrev pub prints : Reader MainItem
-prints = mapped_reader prints_tree (token print_word then closed)
+prints = mapped_reader prints_tree (token print_word then closed_expression)

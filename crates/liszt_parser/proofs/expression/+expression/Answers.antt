@@ -20,23 +20,23 @@ use Rattle.liszt_parser.proofs.StepLemmas.{leaves, map_fails, part_fails, part_t
 use Rattle.liszt_parser.proofs.LoopLemmas.{one_more, fails_so_far, links_pushed, links_all}
 use Rattle.liszt_parser.proofs.expression.+expression.Goals as goal
 
-pub bracketed-returns-in_err-at : goal.bracketed-returns-in_err-at
-bracketed-returns-in_err-at t c =
+pub bracketed_expression-returns-in_err-at : goal.bracketed_expression-returns-in_err-at
+bracketed_expression-returns-in_err-at t c =
     let ts = source_lexemes c.args.source.now in let refused = c.in_err-at.field-0.0 in
     leaves 1 brackets expression ts c.args.at c.from_residual.result refused c.from_residual.ensures.1
     (becomes_fails ts c.args.at refused (bracketed_becomes (drop c.args.at ts))
     (part_fails (token_part open_bracket) inner_close ts c.args.at refused c.in_err-at.ensures.outcome))
 
-pub bracketed-returns-in_err-e : goal.bracketed-returns-in_err-e
-bracketed-returns-in_err-e t c =
+pub bracketed_expression-returns-in_err-e : goal.bracketed_expression-returns-in_err-e
+bracketed_expression-returns-in_err-e t c =
     let s = c.args.source.now in let ts = source_lexemes s in let refused = c.in_err-e.field-0.0 in
     leaves 1 brackets expression ts c.args.at c.from_residual-in_err-e.result refused c.from_residual-in_err-e.ensures.1
     (becomes_fails ts c.args.at refused (bracketed_becomes (drop c.args.at ts))
     (part_then (token_part open_bracket) inner_close ts c.args.at c.in_ok-at.at (source_lexeme s c.in_ok-at.field-0-0) refused c.in_ok-at.ensures.outcome.2
     (rank_fails close_after (token_lawful close_bracket) ts c.in_ok-at.at refused c.in_err-e.ensures)))
 
-pub bracketed-returns-in_err-at-2 : goal.bracketed-returns-in_err-at-2
-bracketed-returns-in_err-at-2 t c =
+pub bracketed_expression-returns-in_err-at-2 : goal.bracketed_expression-returns-in_err-at-2
+bracketed_expression-returns-in_err-at-2 t c =
     let s = c.args.source.now in let ts = source_lexemes s in let refused = c.in_err-at-2.field-0.0 in
     leaves 1 brackets expression ts c.args.at c.from_residual-in_err-at-2.result refused c.from_residual-in_err-at-2.ensures.1
     (becomes_fails ts c.args.at refused (bracketed_becomes (drop c.args.at ts))
@@ -44,8 +44,8 @@ bracketed-returns-in_err-at-2 t c =
     (rank_then close_after ts c.in_ok-at.at c.in_ok-e.at (expression c.in_ok-e.e) refused c.in_ok-e.ensures.2
     c.in_err-at-2.ensures.outcome)))
 
-pub bracketed-returns : goal.bracketed-returns
-bracketed-returns t c =
+pub bracketed_expression-returns : goal.bracketed_expression-returns
+bracketed_expression-returns t c =
     let s = c.args.source.now in
     let ts = source_lexemes s in (
       omega (arith, c.in_ok-at.ensures.outcome.0, c.in_ok-e.ensures.0, c.in_ok-at-2.ensures.outcome.0),
@@ -318,8 +318,8 @@ comparison-returns t c =
           (rank_read sum_seconds seconds_lawful (drop c.args.at ts) (drop c.in_ok-left.at ts) (drop c.in_ok-second.at ts) (expression c.in_ok-left.left) _ c.in_ok-left.ensures.2 read),
     )
 
-pub compared-returns-in_err-right : goal.compared-returns-in_err-right
-compared-returns-in_err-right t c =
+pub comparison_tail-returns-in_err-right : goal.comparison_tail-returns-in_err-right
+comparison_tail-returns-in_err-right t c =
     let s = c.args.source.now in let ts = source_lexemes s in let refused = c.in_err-right.field-0.0 in
     let first : HeadIs (HasValue rel_of) (drop c.args.at ts) = subst (HeadIs (HasValue rel_of)) (sym c.in-Some.ensures.0) (c.in-Some.relation, c.in-Some.ensures.3) in
     leaves 0 seconds (option_map (λ x. ((source_lexeme s x.0, x.1), expression x.2))) ts c.args.at c.from_residual.result refused c.from_residual.ensures.1
@@ -328,8 +328,8 @@ compared-returns-in_err-right t c =
     (part_then rel_part (expressions_lawful (chain Sum)) ts c.args.at c.in-Some.after (source_lexeme s c.in-Some.token, c.in-Some.relation) refused
     (choice_read rel_of ts (source_lexeme s) c.args.at ((c.in-Some.token, c.in-Some.relation), c.in-Some.after) c.in-Some.ensures) c.in_err-right.ensures))
 
-pub compared-returns-in-None : goal.compared-returns-in-None
-compared-returns-in-None t c =
+pub comparison_tail-returns-in-None : goal.comparison_tail-returns-in-None
+comparison_tail-returns-in-None t c =
     let s = c.args.source.now in
     let ts = source_lexemes s in (
       omega (arith, c.in-Some.ensures.1, c.in_ok-right.ensures.0),
@@ -340,8 +340,8 @@ compared-returns-in-None t c =
           c.in-None.ensures,
     )
 
-pub compared-returns-in-Some-rel : goal.compared-returns-in-Some-rel
-compared-returns-in-Some-rel t c =
+pub comparison_tail-returns-in-Some-rel : goal.comparison_tail-returns-in-Some-rel
+comparison_tail-returns-in-Some-rel t c =
     let s = c.args.source.now in let ts = source_lexemes s in
     let first : HeadIs (HasValue rel_of) (drop c.args.at ts) = subst (HeadIs (HasValue rel_of)) (sym c.in-Some.ensures.0) (c.in-Some.relation, c.in-Some.ensures.3) in
     let again : HeadIs (HasValue rel_of) (drop c.in_ok-right.end ts) = subst (HeadIs (HasValue rel_of)) (sym c.in-Some-rel.ensures.0) (c.in-Some-rel.field-0.0.1, c.in-Some-rel.ensures.3) in (
@@ -412,8 +412,8 @@ value-returns-then-is-2 t c =
 pub value-returns-then-is-3 : goal.value-returns-then-is-3
 value-returns-then-is-3 t c =
     let ts = source_lexemes c.args.source.now in
-    settles expression expression (λ e. refl) (expressions_lawful primary_expression) brackets_lawful (λ left other not. tt) ts c.args.at c.bracketed.result
-    (brackets_become (drop c.args.at ts) c.if-is-3.ensures) c.bracketed.ensures
+    settles expression expression (λ e. refl) (expressions_lawful primary_expression) brackets_lawful (λ left other not. tt) ts c.args.at c.bracketed_expression.result
+    (brackets_become (drop c.args.at ts) c.if-is-3.ensures) c.bracketed_expression.ensures
 
 pub value-returns-in-Some : goal.value-returns-in-Some
 value-returns-in-Some t c =

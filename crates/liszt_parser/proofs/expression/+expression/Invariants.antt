@@ -14,8 +14,8 @@ decreases-primary_expression l = work (length (source_lexemes l.source.now)) l.a
 abbrev pub decreases-argument : goal.decreases-argument
 decreases-argument l = work (length (source_lexemes l.source.now)) l.at 2
 
-abbrev pub decreases-bracketed : goal.decreases-bracketed
-decreases-bracketed l = work (length (source_lexemes l.source.now)) l.at 1
+abbrev pub decreases-bracketed_expression : goal.decreases-bracketed_expression
+decreases-bracketed_expression l = work (length (source_lexemes l.source.now)) l.at 1
 
 abbrev pub decreases-call : goal.decreases-call
 decreases-call l = work (length (source_lexemes l.source.now)) l.at 1
@@ -23,8 +23,8 @@ decreases-call l = work (length (source_lexemes l.source.now)) l.at 1
 abbrev pub decreases-chain : goal.decreases-chain
 decreases-chain l = work (length (source_lexemes l.source.now)) l.at (operand_work l.level + 1)
 
-abbrev pub decreases-compared : goal.decreases-compared
-decreases-compared l = work (length (source_lexemes l.source.now)) l.at 0
+abbrev pub decreases-comparison_tail : goal.decreases-comparison_tail
+decreases-comparison_tail l = work (length (source_lexemes l.source.now)) l.at 0
 
 abbrev pub decreases-comparison : goal.decreases-comparison
 decreases-comparison l = work (length (source_lexemes l.source.now)) l.at 9

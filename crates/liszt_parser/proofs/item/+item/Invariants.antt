@@ -21,8 +21,8 @@ decreases-items l = work (length (source_lexemes l.source.now)) l.at 4
 abbrev pub decreases-main_block : goal.decreases-main_block
 decreases-main_block l = work (length (source_lexemes l.source.now)) l.at 1
 
-abbrev pub decreases-otherwise : goal.decreases-otherwise
-decreases-otherwise l = work (length (source_lexemes l.source.now)) l.at 1
+abbrev pub decreases-else_block : goal.decreases-else_block
+decreases-else_block l = work (length (source_lexemes l.source.now)) l.at 1
 
 abbrev pub decreases-repetition : goal.decreases-repetition
 decreases-repetition l = work (length (source_lexemes l.source.now)) l.at 1

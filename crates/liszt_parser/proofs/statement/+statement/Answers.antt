@@ -81,8 +81,8 @@ conditional-returns-in-Some t c =
           (part_read blocks_part elses_lawful (drop c.in_ok-test.at ts) (drop c.in_ok-yes.at ts) (drop c.in_ok-no.at ts) (body_of (map statement_tree c.in_ok-yes.yes)) (Some (body_of (map statement_tree c.in-Some.no))) c.in_ok-yes.ensures.2 read))),
     )
 
-pub otherwise-returns-in_err-at : goal.otherwise-returns-in_err-at
-otherwise-returns-in_err-at t c =
+pub else_block-returns-in_err-at : goal.else_block-returns-in_err-at
+else_block-returns-in_err-at t c =
     let ts = source_lexemes c.args.source.now in let refused = c.in_err-at.field-0.0 in
     leaves 0 elses (option_map (λ b. body_of (map statement_tree b))) ts c.args.at c.from_residual.result refused c.from_residual.ensures.1
     (fails_by elses (mapped_reader (λ x. x.1) (token else_word then blocks)) ts c.args.at c.args.at
@@ -90,8 +90,8 @@ otherwise-returns-in_err-at t c =
     (map_fails (λ (x : Lexeme × Body). x.1) else_lawful ts c.args.at refused
     (part_fails (token_part else_word) blocks_lawful ts c.args.at refused c.in_err-at.ensures.outcome)))
 
-pub otherwise-returns-in_err-body : goal.otherwise-returns-in_err-body
-otherwise-returns-in_err-body t c =
+pub else_block-returns-in_err-body : goal.else_block-returns-in_err-body
+else_block-returns-in_err-body t c =
     let s = c.args.source.now in let ts = source_lexemes s in let refused = c.in_err-body.field-0.0 in
     leaves 0 elses (option_map (λ b. body_of (map statement_tree b))) ts c.args.at c.from_residual-in_err-body.result refused c.from_residual-in_err-body.ensures.1
     (fails_by elses (mapped_reader (λ x. x.1) (token else_word then blocks)) ts c.args.at c.args.at
@@ -99,8 +99,8 @@ otherwise-returns-in_err-body t c =
     (map_fails (λ (x : Lexeme × Body). x.1) else_lawful ts c.args.at refused
     (part_then (token_part else_word) blocks_lawful ts c.args.at c.in_ok-at.at (source_lexeme s c.in_ok-at.field-0-0) refused c.in_ok-at.ensures.outcome.2 c.in_err-body.ensures)))
 
-pub otherwise-returns-then-is : goal.otherwise-returns-then-is
-otherwise-returns-then-is t c =
+pub else_block-returns-then-is : goal.else_block-returns-then-is
+else_block-returns-then-is t c =
     let s = c.args.source.now in
     let ts = source_lexemes s in (
       c.in_ok-body.ensures.1,
@@ -109,8 +109,8 @@ otherwise-returns-then-is t c =
           (part_read (token_part else_word) blocks_lawful (drop c.args.at ts) (drop c.in_ok-at.at ts) (drop c.in_ok-body.end ts) (source_lexeme s c.in_ok-at.field-0-0) (body_of (map statement_tree c.in_ok-body.body)) c.in_ok-at.ensures.outcome.2 c.in_ok-body.ensures.2)) c.if-is.ensures,
     )
 
-pub otherwise-returns : goal.otherwise-returns
-otherwise-returns t c =
+pub else_block-returns : goal.else_block-returns
+else_block-returns t c =
     let s = c.args.source.now in
     let ts = source_lexemes s in (
       omega (arith, c.in_ok-at.ensures.outcome.0, c.in_ok-body.ensures.0),
