@@ -26,8 +26,8 @@ use Rattle.liszt_base.specs.declared.answers.MeshFault.{MeshFault}
 use Rattle.liszt_base.specs.declared.mesh.Point.{Point}
 use Rattle.text_scan.specs.Rows.{text_rows}
 use Rattle.tet_reader.specs.Faults.{node_fault, cells_fault}
-use Rattle.tet_reader.proofs.Lists.{one_point_list, node_takes, node_again}
-use Rattle.tet_reader.proofs.EleReading.{mesh_takes_over, mesh_again_over, one_mesh_over}
+use Rattle.tet_reader.proofs.Lists.{one_point_list, node_spelled, node_passes}
+use Rattle.tet_reader.proofs.EleReading.{mesh_spelled_over, mesh_passes_over, one_mesh_over}
 use Rattle.liszt_report.specs.declared.ended.Ended.{Ended}
 use Rattle.liszt_report.specs.declared.ended.Ended.TheVariants.{Done, Usage, Later, Program as OfProgram, Mesh, Limit, ReadFault, WriteFault, NoMemory}
 use Rattle.command_words.specs.Commands.{command_of, SeqCommand}
@@ -107,14 +107,14 @@ one_node : HasOneResult NodeResult
 one_node bytes (Ok t) (Ok u) h i =
     let same = one_point_list (text_rows bytes).rows t.base u.base t.list u.list h i in
     ap Ok (same_table t.list u.list t.base u.base same.1 same.0)
-one_node bytes (Ok t) (Err e) h i = let none = node_again (text_rows bytes).last_line (text_rows bytes).rows t.base t.list h in let some = i.1 in cc
-one_node bytes (Err e) (Ok u) h i = let none = node_again (text_rows bytes).last_line (text_rows bytes).rows u.base u.list i in let some = h.1 in cc
+one_node bytes (Ok t) (Err e) h i = let none = node_passes (text_rows bytes).last_line (text_rows bytes).rows t.base t.list h in let some = i.1 in cc
+one_node bytes (Err e) (Ok u) h i = let none = node_passes (text_rows bytes).last_line (text_rows bytes).rows u.base u.list i in let some = h.1 in cc
 one_node bytes (Err e) (Err f) h i = ap Err (h.2 ∙ (ap mesh_ending (same_fault (node_fault (text_rows bytes)) h.0 i.0 h.1 i.1) ∙ sym i.2))
 
 one_ele : (table : PointTable) → HasOneResult (EleResult table)
 one_ele table bytes (Ok m) (Ok n) h i = ap Ok (one_mesh_over table (text_rows bytes) m n h i)
-one_ele table bytes (Ok m) (Err e) h i = let none = mesh_again_over table (text_rows bytes) m h in let some = i.1 in cc
-one_ele table bytes (Err e) (Ok n) h i = let none = mesh_again_over table (text_rows bytes) n i in let some = h.1 in cc
+one_ele table bytes (Ok m) (Err e) h i = let none = mesh_passes_over table (text_rows bytes) m h in let some = i.1 in cc
+one_ele table bytes (Err e) (Ok n) h i = let none = mesh_passes_over table (text_rows bytes) n i in let some = h.1 in cc
 one_ele table bytes (Err e) (Err f) h i =
     ap Err (h.2 ∙ (ap mesh_ending (same_fault (cells_fault (length table.list) table.base (text_rows bytes)) h.0 i.0 h.1 i.1) ∙ sym i.2))
 
@@ -242,14 +242,14 @@ some_node : HasSomeResult NodeResult
 some_node bytes = go (node_fault (text_rows bytes)) refl
   where
     go : (fault : Option MeshFault) → node_fault (text_rows bytes) ≡ fault → (answer : Result PointTable Ended) × NodeResult bytes answer
-    go None is = let p = node_takes (text_rows bytes).last_line (text_rows bytes).rows is in (Ok (record { list = p.1; base = p.0 }), p.2)
+    go None is = let p = node_spelled (text_rows bytes).last_line (text_rows bytes).rows is in (Ok (record { list = p.1; base = p.0 }), p.2)
     go (Some f) is = (Err (mesh_ending f), (f, is, refl))
 
 some_ele : (table : PointTable) → HasSomeResult (EleResult table)
 some_ele table bytes = go (cells_fault (length table.list) table.base (text_rows bytes)) refl
   where
     go : (fault : Option MeshFault) → cells_fault (length table.list) table.base (text_rows bytes) ≡ fault → (answer : Result MeshLists Ended) × EleResult table bytes answer
-    go None is = let m = mesh_takes_over table (text_rows bytes) is in (Ok m.0, m.1)
+    go None is = let m = mesh_spelled_over table (text_rows bytes) is in (Ok m.0, m.1)
     go (Some f) is = (Err (mesh_ending f), (f, is, refl))
 
 some_command : (files : Files) (o : Option SeqCommand)

@@ -10,7 +10,7 @@ use Rattle.std.proofs.lemmas.Slice.Eq.{bytes_eq-Decides}
 use Rattle.liszt_base.specs.declared.elements.Kind.TheVariants.{Cell}
 use Rattle.liszt_base.specs.declared.elements.Op.TheVariants.{Add}
 use Rattle.liszt_tree.specs.declared.tree.How.TheVariants.{Fold}
-use Rattle.liszt_tree.specs.Tree.{nowhere, Number, Name, Statement, Assign, no_statement, statement, MainItem, MainField, MainFor, no_item, item, bare_item, bare_statement, bare_body, bare_main, Body, Main, item_tree, statement_tree, body_of, main_of}
+use Rattle.liszt_tree.specs.Tree.{nowhere, Number, Name, Statement, Assign, no_statement, statement, MainItem, MainField, MainFor, no_item, item, item_without_places, statement_without_places, body_without_places, main_without_places, Body, Main, item_tree, statement_tree, body_of, main_of}
 use Rattle.liszt.specs.Simple.{Simple, IsSmall, IsSimple, reserved_names}
 use Rattle.liszt.specs.Internal.SimpleReading.{Named, field_declaration, statement_addition, body_addition, loop_addition, is_small, fits, simple_from, simple_at}
 
@@ -38,7 +38,7 @@ statement_of x = Assign nowhere x.0 (Some (Name nowhere (codes "c"))) (Fold Add)
 abbrev loop_of : Named → MainItem
 loop_of x = MainFor nowhere (codes "c") nowhere Cell (statement (statement_of x) no_statement)
 
-field_shape : (i : MainItem) (x : Named) → field_declaration i ≡ Some x → bare_item i ≡ field_of x
+field_shape : (i : MainItem) (x : Named) → field_declaration i ≡ Some x → item_without_places i ≡ field_of x
 field_shape (MainField place name at Cell (Number there value)) x e = let is : ◌≡◌ {A = Named} (name, value) x = cc in ap field_of is
 field_shape _ x e = absurd cc
 
@@ -50,21 +50,21 @@ name_test_passed name o x e = go (bytes_eq name (codes "c")) refl e where
   go true b e = (same_name name (codes "c") b, e)
   go false b e = absurd cc
 
-statement_shape : (s : Statement) (x : Named) → statement_addition s ≡ Some x → bare_statement s ≡ statement_of x
+statement_shape : (s : Statement) (x : Named) → statement_addition s ≡ Some x → statement_without_places s ≡ statement_of x
 statement_shape (Assign place name (Some (Name there at)) (Fold Add) (Number here value)) x e =
     let p = name_test_passed at (Some (name, value)) x e in
     let is : ◌≡◌ {A = Named} (name, value) x = cc in
     ap (λ n. Assign nowhere name (Some (Name nowhere n)) (Fold Add) (Number nowhere value)) p.0 ∙ ap statement_of is
 statement_shape _ x e = absurd cc
 
-body_shape : (b : Body) (x : Named) → body_addition b ≡ Some x → bare_body b ≡ statement (statement_of x) no_statement
+body_shape : (b : Body) (x : Named) → body_addition b ≡ Some x → body_without_places b ≡ statement (statement_of x) no_statement
 body_shape (statement s no_statement) x e = ap (λ s. statement s no_statement) (statement_shape s x e)
 body_shape _ x e = absurd cc
 
-loop_shape : (i : MainItem) (x : Named) → loop_addition i ≡ Some x → bare_item i ≡ loop_of x
+loop_shape : (i : MainItem) (x : Named) → loop_addition i ≡ Some x → item_without_places i ≡ loop_of x
 loop_shape (MainFor place name at Cell body) x e =
     let p = name_test_passed name (body_addition body) x e in
-    ap (λ n. MainFor nowhere n nowhere Cell (bare_body body)) p.0
+    ap (λ n. MainFor nowhere n nowhere Cell (body_without_places body)) p.0
     ∙ ap (λ b. MainFor nowhere (codes "c") nowhere Cell b) (body_shape body x p.1)
 loop_shape _ x e = absurd cc
 
@@ -101,7 +101,7 @@ pair_shape i j (Some field) (Some loop) s e f g = go (fits field loop) refl g wh
       subst (IsSimple (item i (item j no_item))) is
       (record {
         shape =
-            ap (λ i. item i (item (bare_item j) no_item)) (field_shape i field e)
+            ap (λ i. item i (item (item_without_places j) no_item)) (field_shape i field e)
             ∙ ap (λ j. item (field_of field) (item j no_item)) (loop_shape j loop f ∙ ap (λ n. loop_of (n, loop.1)) (sym p.0));
         free = p.1;
         short = p.2;
@@ -117,23 +117,23 @@ found (item i (item j no_item)) s e = pair_shape i j (field_declaration i) (loop
 found _ s e = absurd cc
 
 -- Reading does not see places.
-field_bare : (i : MainItem) → field_declaration (bare_item i) ≡ field_declaration i
+field_bare : (i : MainItem) → field_declaration (item_without_places i) ≡ field_declaration i
 field_bare (MainField place name at Cell (Number there value)) = refl
 field_bare _ = refl
 
-statement_bare : (s : Statement) → statement_addition (bare_statement s) ≡ statement_addition s
+statement_bare : (s : Statement) → statement_addition (statement_without_places s) ≡ statement_addition s
 statement_bare (Assign place name (Some (Name there at)) (Fold Add) (Number here value)) = refl
 statement_bare _ = refl
 
-body_bare : (b : Body) → body_addition (bare_body b) ≡ body_addition b
+body_bare : (b : Body) → body_addition (body_without_places b) ≡ body_addition b
 body_bare (statement s no_statement) = statement_bare s
 body_bare _ = refl
 
-loop_bare : (i : MainItem) → loop_addition (bare_item i) ≡ loop_addition i
+loop_bare : (i : MainItem) → loop_addition (item_without_places i) ≡ loop_addition i
 loop_bare (MainFor place name at Cell body) = ap (λ o. if bytes_eq name (codes "c") then o else None) (body_bare body)
 loop_bare _ = refl
 
-bare_same : (tree : Main) → simple_at (bare_main tree) ≡ simple_at tree
+bare_same : (tree : Main) → simple_at (main_without_places tree) ≡ simple_at tree
 bare_same (item i (item j no_item)) = cc (field_bare i, loop_bare j)
 bare_same _ = refl
 

@@ -25,7 +25,23 @@ use Rattle.liszt_report.specs.Endings.{ending_text, ending_of, field_text, too_l
 use Rattle.liszt.specs.Simple.{done_text}
 use Rattle.liszt.specs.Expected.{Outcome, refusal, Within, ProgramResult, NodeResult, EleResult, TakesIn, Finishes, TakesCells, TakesPoints, Seq, ResultsIn}
 use Rattle.liszt.specs.Answers.{outside, IsLost, Answers, Wrote, HasCauses, HasShelfCause}
-use Rattle.liszt.specs.Internal.Steps.{HasStepCause, StepGives, MakesJob, Prepares, job_text}
+use Rattle.liszt.specs.Internal.Steps.{HasStepCause, StepGives, MakesJob, Prepares, ReadsProgram, job_text}
+use Rattle.liszt_lexer.specs.Lexed.{LexedText, lexed_text}
+use Rattle.liszt_lexer.proofs.LexedTextLemmas.{lexed_parts}
+use Rattle.liszt_parser.specs.Grammar.{lexemes}
+use Rattle.liszt_parser.specs.ParseFault.{IsParseFault}
+use Rattle.liszt_parser.specs.ParserAnswers.{ParsesTo}
+use Rattle.liszt_tree.specs.declared.tree.Program.{Program as Tree}
+use Rattle.liszt_base.specs.declared.answers.ProgramFault.{ProgramFault}
+
+-- The program of a text, from its tokens
+pub program_read : (text : List ℕ) (lexed : LexedText) (result : Result Tree (Refused ProgramFault)) → lexed_text text ≡ Ok lexed
+    → ParsesTo (lexemes text lexed.tokens) lexed.end result → ReadsProgram text result
+program_read text lexed (Ok program) is parsed = let p = lexed_parts text lexed is in (lexed.tokens, p.0, parsed.0, parsed.1)
+program_read text lexed (Err (Fault fault)) is parsed =
+    let p = lexed_parts text lexed is in
+    inr (lexed.tokens, p.0, subst (λ e. IsParseFault (lexemes text lexed.tokens) e (Some fault)) p.1 parsed)
+program_read text lexed (Err OutOfMemory) is parsed = tt
 
 -- From the bytes of an input to their result
 
