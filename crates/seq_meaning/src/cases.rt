@@ -90,7 +90,7 @@ fn paths()
         ∷ ScopeOpened 1 ∷ FieldDeclared 7 (pos 2) ∷ ComprehensionReached 0 ∷ ScopeClosed 1
         ∷ ScopeOpened 1 ∷ FieldDeclared 7 (pos 2) ∷ ComprehensionReached 0 ∷ ScopeClosed 1
         ∷ RunEnded IsDone ∷ [] }
-    ensures turns_left { map (λ entry. entry.at.turns) (path_of two_cells field_in_scope 5)
+    ensures turns_left { map (λ entry. entry.state.turns) (path_of two_cells field_in_scope 5)
         ≡ 5 ∷ 5 ∷ 4 ∷ 4 ∷ 4 ∷ 4 ∷ 3 ∷ 3 ∷ 3 ∷ 3 ∷ 3 ∷ [] }
     ensures phases { map (λ phase. phase.1.fields) (phases_of two_cells field_in_scope 5)
         ≡ ((7, pos 2 ∷ pos 2 ∷ []) ∷ (6, pos 1 ∷ pos 1 ∷ []) ∷ [])
@@ -113,7 +113,7 @@ fn shared_turns()
     ensures three { run_end one_cell nested_loops 3 ≡ traps_in_main Spent 1 1 }
     ensures iterations { prints_of one_cell loops_of_iterations 3 ≡ pos 12 ∷ pos 24 ∷ pos 36 ∷ [] }
     ensures inner { run_end one_cell loops_of_iterations 2 ≡ traps_at_element Spent 2 1 Vertex 0 }
-    ensures turns_left { map (λ entry. entry.at.turns) (path_of one_cell loops_of_iterations 2)
+    ensures turns_left { map (λ entry. entry.state.turns) (path_of one_cell loops_of_iterations 2)
         ≡ 2 ∷ 1 ∷ 1 ∷ 1 ∷ [] }
 {}
 
@@ -156,7 +156,7 @@ fn scopes()
         ≡ ScopeOpened 0 ∷ ScopeOpened 3 ∷ ScopeClosed 3 ∷ ScopeOpened 4 ∷ ScopeClosed 4
         ∷ RunEnded IsDone ∷ [] }
     ensures parents { scopes_of scopes_of_branches ≡ replicate 5 0 }
-    ensures scalars { map (λ entry. entry.at.scalars) (path_of two_cells acts_and_folds 0)
+    ensures scalars { map (λ entry. entry.state.scalars) (path_of two_cells acts_and_folds 0)
         ≡ [] ∷ [] ∷ [] ∷ ((0, pos 0) ∷ []) ∷ ((0, pos 0) ∷ []) ∷ [] }
 {}
 
