@@ -37,7 +37,7 @@ turns_kept =
 
 -- no act, and one act
 no_act : (m after : EvaluationState) → after.acts ≡ m.acts → after.state.fields ≡ m.state.fields → ActsDetermineFields m after
-no_act m after e f = record { rest = []; acts_are = e ∙ sym (append-nil m.acts); fields_are = f }
+no_act m after e f = record { new_acts = []; acts_are = e ∙ sym (append-nil m.acts); fields_are = f }
 
 folded_acts : (how : How) (n : ℤ) (scalar : ℕ) (old : ℤ) (m : EvaluationState) → ActsDetermineFields m (folded how n scalar old m)
 folded_acts Set n scalar old m = no_act m _ refl refl
@@ -62,9 +62,9 @@ after_more (act ∷ acts) rest fields = after_more acts rest (fields_after_act a
 both : (a b c : EvaluationState) → ActsDetermineFields a b → ActsDetermineFields b c → ActsDetermineFields a c
 both a b c r s =
     record {
-      rest = r.rest ++ s.rest;
-      acts_are = s.acts_are ∙ ap (λ acts. acts ++ s.rest) r.acts_are ∙ append_assoc a.acts r.rest s.rest;
-      fields_are = s.fields_are ∙ ap (λ fields. fields_after_acts fields s.rest) r.fields_are ∙ sym (after_more r.rest s.rest a.state.fields);
+      new_acts = r.new_acts ++ s.new_acts;
+      acts_are = s.acts_are ∙ ap (λ acts. acts ++ s.new_acts) r.acts_are ∙ append_assoc a.acts r.new_acts s.new_acts;
+      fields_are = s.fields_are ∙ ap (λ fields. fields_after_acts fields s.new_acts) r.fields_are ∙ sym (after_more r.new_acts s.new_acts a.state.fields);
     }
 
 pub fields_made : IsFilter (λ a. Unit {0}) ActsDetermineFields
@@ -76,17 +76,17 @@ fields_made =
       local_set = λ name n m. no_act m _ refl refl;
       element = λ name x m. no_act m _ refl refl;
       read = λ spot n m any. record {
-        rest = record { spot = spot; mode = Read; value = n } ∷ [];
+        new_acts = record { spot = spot; mode = Read; value = n } ∷ [];
         acts_are = refl;
         fields_are = sym (read_changes_nothing spot n (value_in m.state.fields spot) m.state.fields);
       };
       spot_set = λ spot how n old m any e. record {
-        rest = record { spot = spot; mode = mode_by how; value = operand how n } ∷ [];
+        new_acts = record { spot = spot; mode = mode_by how; value = operand how n } ∷ [];
         acts_are = refl;
         fields_are = sym (set_is_act spot how n old m.state.fields)
             ∙ ap (λ value. fields_after_act (record { spot = spot; mode = mode_by how; value = operand how n }) value m.state.fields) (sym e);
       };
       scalar_assignment = λ how n scalar old m any. folded_acts how n scalar old m;
-      block = λ before m r. record { rest = r.rest; acts_are = r.acts_are; fields_are = r.fields_are };
+      block = λ before m r. record { new_acts = r.new_acts; acts_are = r.acts_are; fields_are = r.fields_are };
       turn = λ n m e. no_act m _ refl refl;
     }

@@ -59,7 +59,7 @@ is_in_range n = int_le (neg_ℤ (pos (2 ^ 63))) n && int_lt n (pos (2 ^ 63))
 abbrev pub checked_number : Place → ℤ → Computation EvaluationState Value
 checked_number place n = if_then_else (is_in_range n) (pure (NumberValue n)) (trap Overflow place)
 
--- Division cuts towards zero, the remainder has the sign of the dividend, and neither divides by zero.
+-- Division rounds towards zero, the remainder has the sign of the dividend, and neither divides by zero.
 abbrev pub checked_division : Place → ℤ → Computation EvaluationState Value → Computation EvaluationState Value
 checked_division place divisor by = if_then_else (int_le divisor (pos 0) && int_le (pos 0) divisor) (trap ZeroDivide place) by
 

@@ -5,7 +5,7 @@ use Rattle.liszt_base.specs.declared.accesses.Mode.{Mode}
 use Rattle.liszt_base.specs.declared.accesses.Mode.TheVariants.{Read, Write, Reduce}
 use Rattle.phase_types.specs.Environments.{Comprehension, lookup}
 use Rattle.phase_types.specs.Walk.{OfField, OfScalar, mode_in}
-use Rattle.kernel_eval.specs.Outcomes.{Outcome, ◌>>=◌, ◌>>◌, if_then_else, skip, Turns, take_turn}
+use Rattle.kernel_eval.specs.Outcomes.{Outcome, Computation, Done, ◌>>=◌, ◌>>◌, if_then_else, skip, Turns, take_turn}
 use Rattle.kernel_eval.specs.States.{Fields, value_in, with_value, State, Act, ScalarFold, EvaluationState}
 
 -- the state afterwards is in relation R to the state at entry
@@ -30,9 +30,9 @@ fields_after_acts fields (act ∷ rest) = fields_after_acts (fields_after_act ac
 
 -- a computation appends acts, and these applied to the fields at entry give the fields afterwards
 pub record ActsDetermineFields (m after : EvaluationState) : Type 0 where
-  pub rest : List Act
-  pub acts_are : after.acts ≡ m.acts ++ rest
-  pub fields_are : after.state.fields ≡ fields_after_acts m.state.fields rest
+  pub new_acts : List Act
+  pub acts_are : after.acts ≡ m.acts ++ new_acts
+  pub fields_are : after.state.fields ≡ fields_after_acts m.state.fields new_acts
 
 -- THE MODE of an act is the one of its field in the comprehension, that of a reduction the one of its scalar. A subject that is read, or
 -- not accessed, is unchanged.
@@ -51,7 +51,7 @@ abbrev pub field_values : State → ℕ → Option (List ℤ)
 field_values s field = lookup (λ number. number == field) s.fields
 
 -- A LOOP UNFOLDED: its test; if that is true, a turn and the body, and then the loop again
-abbrev pub loop_unfolded : {S : Type 0} → Turns S → (S → Outcome S (Unit {0})) → (S → Outcome S Bool) → (S → Outcome S (Unit {0}))
-    → (S → Outcome S (Unit {0})) → S → Outcome S (Unit {0})
+abbrev pub loop_unfolded : {S : Type 0} → Turns S → Computation S Done → Computation S Bool → Computation S Done → Computation S Done
+    → Computation S Done
 loop_unfolded turns spent test body again =
     test >>= λ is_true. if_then_else is_true ((λ s. take_turn turns spent body (turns.remaining s) s) >> again) skip

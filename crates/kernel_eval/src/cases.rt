@@ -9,7 +9,7 @@ ghost use Rattle.liszt_tree.specs.declared.tree.Sign.TheVariants.{Plus, Minus, T
 ghost use Rattle.kernel_eval.specs.Internal.Cases.{binary, both, chained, divides_by_zero, value_of, number_result, greatest_number, operator_place, equality, least_number, negation_of, either, trap_result};
 ghost use Rattle.kernel_eval.specs.Meaning.{TruthValue, assigned_value};
 
-/// Division cuts towards zero, and the remainder has the sign of the dividend.
+/// Division rounds towards zero, and the remainder has the sign of the dividend.
 fn division()
     ensures positive { value_of (binary Over (pos 7) (pos 2)) ≡ number_result (pos 3) }
     ensures negative { value_of (binary Over (neg_ℤ (pos 7)) (pos 2))

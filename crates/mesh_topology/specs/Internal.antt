@@ -2,4 +2,5 @@
 pub mod Buckets
 pub mod Combinations
 pub mod Incidence
+pub mod Meshes
 pub mod Tables

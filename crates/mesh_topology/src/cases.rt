@@ -5,7 +5,7 @@ ghost use Rattle.std.specs.Prelude.{◌≡◌, Some, [], ◌∷◌};
 ghost use Rattle.liszt_base.specs.Corners.{IsMesh};
 ghost use Rattle.liszt_base.specs.declared.elements.Kind.TheVariants.{Vertex, Edge, Face, Cell};
 ghost use Rattle.mesh_topology.specs.Elements.{corner_lists, elements, count, id_of_corners, near, sides, face_cycle};
-ghost use Rattle.mesh_topology.specs.Meshes.{one_cell, one_reversed, two_cells, two_at_an_edge};
+ghost use Rattle.mesh_topology.specs.Internal.Meshes.{one_cell, one_reversed, two_cells, two_at_an_edge};
 
 /// The edges and the faces of two cells that share a face, in order, and the number of elements of each kind.
 fn elements_of_two_cells()

@@ -36,7 +36,8 @@ pub fn selected_cells(
     lists: &PlainLists<u32>,
 ) -> Result<PlainLists<u32>, NoMemory>
     requires { ArePairsInRange cells.now pairs.now lists.now }
-    ensures { IfOk result (λ selections. selections ≡ map (cells_with cells.now lists.now) pairs.now) }
+    ensures { IfOk result (λ selections. selections
+        ≡ map (cells_with cells.now lists.now) pairs.now) }
 {
     let mut selections = PlainLists::new(alloc);
     let mut selected = Vec::new(alloc);

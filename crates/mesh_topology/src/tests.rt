@@ -1,7 +1,7 @@
 //! The mesh of two cells that share a face.
 
 ghost use Rattle.std.specs.Prelude.{◌≡◌, IfOk, replicate};
-ghost use Rattle.mesh_topology.specs.Meshes.{some_point, two_cells as TwoCells};
+ghost use Rattle.mesh_topology.specs.Internal.Meshes.{some_point, two_cells as TwoCells};
 
 use crate::Mesh;
 use liszt_base::{CellList, Kind, NoMemory, Point, PointList, PointTable, RawCell, RawMesh};

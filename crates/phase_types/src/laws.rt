@@ -47,7 +47,8 @@ pub fn parts_are_numbered_in_order()
 /// declared field or scalar of that name, and a typed item leaves it unchanged. Later parts change no number.
 pub fn bindings_denote_parts()
     ensures start { BindsParts start }
-    ensures after_item { (site : Site) (i : MainItem) → BindsParts site → BindsParts (after_item site i) }
+    ensures after_item { (site : Site) (i : MainItem) → BindsParts site
+        → BindsParts (after_item site i) }
     ensures after_items { (site : Site) (program : Main) → BindsParts site
         → BindsParts (after_main site program) }
     ensures block { (site : Site) → BindsParts site → BindsParts (block_start site) }

@@ -44,14 +44,14 @@ pub data Event : Type 0 where
 
 pub record Entry : Type 0 where
   pub event : Event
-  pub at : State
+  pub state : State
 
 pub record Progress : Type 0 where
   pub state : State
   pub path : List Entry
 
 abbrev pub log_event : Event → Computation Progress Done
-log_event event = modify (λ p. record p { path = p.path ++ record { event = event; at = p.state } ∷ [] })
+log_event event = modify (λ p. record p { path = p.path ++ record { event = event; state = p.state } ∷ [] })
 
 -- a computation on the state; an expression of the main program
 abbrev pub lift_state : {A : Type 0} → (State → Outcome State A) → Progress → Outcome Progress A
@@ -158,7 +158,7 @@ fields_left mesh program turns = outermost_fields (run mesh program turns).answe
 
 abbrev pub end_entry : Option RunEnd → State → List Entry
 end_entry None s = []
-end_entry (Some ending) s = record { event = RunEnded ending; at = s } ∷ []
+end_entry (Some ending) s = record { event = RunEnded ending; state = s } ∷ []
 
 abbrev pub path_of : MeshLists → Main → ℕ → List Entry
 path_of mesh program turns = (run mesh program turns).after.path ++ end_entry (run_end mesh program turns) (run mesh program turns).after.state
@@ -167,7 +167,7 @@ path_of mesh program turns = (run mesh program turns).after.path ++ end_entry (r
 abbrev pub phase_at : Entry → Option (ℕ × State)
 phase_at entry = of_event entry.event where
   of_event : Event → Option (ℕ × State)
-  of_event (ComprehensionReached k) = Some (k, entry.at)
+  of_event (ComprehensionReached k) = Some (k, entry.state)
   of_event _ = None
 
 abbrev pub phases_of : MeshLists → Main → ℕ → List (ℕ × State)

@@ -11,7 +11,7 @@ ghost use Rattle.liszt_base.specs.declared.accesses.Mode.TheVariants.{Read, Redu
 ghost use Rattle.liszt_base.specs.declared.elements.Op.TheVariants.{Add};
 ghost use Rattle.kernel_eval.specs.Iterations.{acts, end_of, iteration_end, partial};
 ghost use Rattle.phase_types.specs.Environments.{scopes_of};
-ghost use Rattle.mesh_topology.specs.Meshes.{one_cell, two_cells};
+ghost use Rattle.mesh_topology.specs.Internal.Meshes.{one_cell, two_cells};
 ghost use Rattle.seq_meaning.specs.Internal.Cases.{acts_and_folds, adds_greatest, an_act, compares_nil, divides_for_nil, first_comprehension, first_state, locals_end, loop_divides, loops_of_iterations, nested_loops, scopes_of_branches, set_of_nil, with_prints, along_cycles, counts_in_iterations, counts_no_ends, counts_to, divides_by_ids, field_in_scope, heat, id_of_nil, least_id, no_cells, placed, reads_built_ins, sides_of_faces, traps_at_element, traps_in_main, wraps_and_traps, writes_heads, writes_twice};
 ghost use Rattle.seq_meaning.specs.Runs.{print_limit, print_number, ScopeOpened, ScopeClosed, FieldDeclared, ComprehensionReached, RunEnded, fields_left, path_of, phases_of, prints_of, run_end};
 
@@ -90,7 +90,7 @@ fn paths()
         ∷ ScopeOpened 1 ∷ FieldDeclared 7 (pos 2) ∷ ComprehensionReached 0 ∷ ScopeClosed 1
         ∷ ScopeOpened 1 ∷ FieldDeclared 7 (pos 2) ∷ ComprehensionReached 0 ∷ ScopeClosed 1
         ∷ RunEnded IsDone ∷ [] }
-    ensures turns_left { map (λ entry. entry.at.turns) (path_of two_cells field_in_scope 5)
+    ensures turns_left { map (λ entry. entry.state.turns) (path_of two_cells field_in_scope 5)
         ≡ 5 ∷ 5 ∷ 4 ∷ 4 ∷ 4 ∷ 4 ∷ 3 ∷ 3 ∷ 3 ∷ 3 ∷ 3 ∷ [] }
     ensures phases { map (λ phase. phase.1.fields) (phases_of two_cells field_in_scope 5)
         ≡ ((7, pos 2 ∷ pos 2 ∷ []) ∷ (6, pos 1 ∷ pos 1 ∷ []) ∷ [])
@@ -113,7 +113,7 @@ fn shared_turns()
     ensures three { run_end one_cell nested_loops 3 ≡ traps_in_main Spent 1 1 }
     ensures iterations { prints_of one_cell loops_of_iterations 3 ≡ pos 12 ∷ pos 24 ∷ pos 36 ∷ [] }
     ensures inner { run_end one_cell loops_of_iterations 2 ≡ traps_at_element Spent 2 1 Vertex 0 }
-    ensures turns_left { map (λ entry. entry.at.turns) (path_of one_cell loops_of_iterations 2)
+    ensures turns_left { map (λ entry. entry.state.turns) (path_of one_cell loops_of_iterations 2)
         ≡ 2 ∷ 1 ∷ 1 ∷ 1 ∷ [] }
 {}
 
@@ -156,7 +156,7 @@ fn scopes()
         ≡ ScopeOpened 0 ∷ ScopeOpened 3 ∷ ScopeClosed 3 ∷ ScopeOpened 4 ∷ ScopeClosed 4
         ∷ RunEnded IsDone ∷ [] }
     ensures parents { scopes_of scopes_of_branches ≡ replicate 5 0 }
-    ensures scalars { map (λ entry. entry.at.scalars) (path_of two_cells acts_and_folds 0)
+    ensures scalars { map (λ entry. entry.state.scalars) (path_of two_cells acts_and_folds 0)
         ≡ [] ∷ [] ∷ [] ∷ ((0, pos 0) ∷ []) ∷ ((0, pos 0) ∷ []) ∷ [] }
 {}
 

@@ -6,7 +6,7 @@ ghost use Rattle.std.specs.List.{count_by, flat_map};
 ghost use Rattle.liszt_base.specs.declared.elements.Kind.TheVariants.{Vertex, Edge, Face, Cell};
 ghost use Rattle.liszt_base.specs.declared.elements.SetName.TheVariants.{Vertices, Edges, Faces, Cells, EdgesCcw};
 ghost use Rattle.mesh_topology.specs.Elements.{numbers};
-ghost use Rattle.mesh_topology.specs.Meshes.{one_cell, one_reversed, two_cells};
+ghost use Rattle.mesh_topology.specs.Internal.Meshes.{one_cell, one_reversed, two_cells};
 ghost use Rattle.topo_operators.specs.Operators.{unflipped, reversed, tail, head, inside, outside, flip, towards, same, valid, members, has_set};
 
 /// The ends of the six edges of one cell, flipped ones too.

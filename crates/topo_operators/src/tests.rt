@@ -1,7 +1,7 @@
 //! One cell: the edges along the cycle of each of its faces, and an edge and a vertex that is no end of it.
 
 ghost use Rattle.std.specs.Prelude.{◌≡◌, IfOk, replicate};
-ghost use Rattle.mesh_topology.specs.Meshes.{some_point, one_cell as OneCell};
+ghost use Rattle.mesh_topology.specs.Internal.Meshes.{some_point, one_cell as OneCell};
 
 use crate::{members, towards};
 use liszt_base::{

@@ -7,7 +7,7 @@ use Rattle.liszt_tree.specs.declared.tree.Rel.TheVariants.{Same as Equal}
 use Rattle.liszt_tree.specs.declared.tree.Sign.{Sign}
 use Rattle.liszt_tree.specs.declared.tree.Sign.TheVariants as sign
 use Rattle.liszt_tree.specs.Tree.{nowhere, Expression, Number, Neg, Chain, Compare, no_links, link}
-use Rattle.mesh_topology.specs.Meshes.{one_cell}
+use Rattle.mesh_topology.specs.Internal.Meshes.{one_cell}
 use Rattle.kernel_eval.specs.Outcomes.{Stop, Trapped}
 use Rattle.kernel_eval.specs.States.{State, main_evaluation}
 use Rattle.kernel_eval.specs.Meaning.{Value, NumberValue, meaning}

@@ -2,7 +2,7 @@ use Rattle.std.proofs.Common.{◌<◌, ◌^◌, length, refl, sym, subst, arith}
 use Rattle.liszt_base.specs.Corners.{IsMesh}
 use Rattle.liszt_base.specs.declared.elements.Kind.{Kind}
 use Rattle.mesh_topology.specs.Elements.{corner_lists, count}
-use Rattle.mesh_topology.specs.Meshes.{two_cells}
+use Rattle.mesh_topology.specs.Internal.Meshes.{two_cells}
 use Rattle.mesh_topology.proofs.CountLemmas.{fits}
 use Rattle.mesh_topology.proofs.tests.built.Goals as goal
 
