@@ -23,7 +23,7 @@ fn no_commands()
         ∷ []) ≡ None }
     ensures twice { command_of (codes "seq" ∷ codes "--turns=1" ∷ codes "--turns=1" ∷ codes "p"
         ∷ codes "n" ∷ codes "e" ∷ []) ≡ None }
-    ensures other { command_of (codes "seq" ∷ codes "p" ∷ codes "n" ∷ codes "e" ∷ codes "--workers"
+    ensures option_of_none { command_of (codes "seq" ∷ codes "p" ∷ codes "n" ∷ codes "e" ∷ codes "--workers"
         ∷ codes "4" ∷ []) ≡ None }
     ensures zero { command_of (codes "seq" ∷ codes "p" ∷ codes "n" ∷ codes "e" ∷ codes "--turns"
         ∷ codes "0" ∷ []) ≡ None }

@@ -31,14 +31,14 @@ impl Cursor {
         ensures passed { self.new.passed ≡ self.old.passed + size }
     {
         for byte in &text[self.passed..self.passed + size] {
-            self.place = past(self.place, *byte);
+            self.place = place_after_byte(self.place, *byte);
         }
         self.passed += size;
     }
 }
 
 /// The place after one more byte.
-fn past(place: Place, byte: u8) -> Place
+fn place_after_byte(place: Place, byte: u8) -> Place
     requires line { place.line + 1 < 2 ^ 32 }
     requires col { place.col + 1 < 2 ^ 32 }
     ensures { result ≡ place_after_byte place byte }

@@ -24,7 +24,7 @@ pub fn few_nodes()
 
 /// Tokens have at most one fault, and none exactly where they have a tree and are nowhere deeper than the limit.
 pub fn one_fault()
-    ensures one { (ts : List Lexeme) (ending : Place) (fault other : Option ProgramFault)
+    ensures unique { (ts : List Lexeme) (ending : Place) (fault other : Option ProgramFault)
         → IsParseFault ts ending fault → IsParseFault ts ending other → fault ≡ other }
     ensures none { (ts : List Lexeme) (ending : Place)
         → IsParseFault ts ending None ↔ ((tree : Main) × Derives ts tree

@@ -10,9 +10,10 @@ use Rattle.liszt_base.specs.declared.answers.MeshWhat.{MeshWhat}
 use Rattle.liszt_base.specs.declared.answers.MeshWhat.TheVariants.{Header, Dimension, SecondOrder, TooMany}
 use Rattle.text_scan.specs.Numbers.{is_whole}
 use Rattle.tet_reader.specs.Tests.{unless, is_within, first_some}
-use Rattle.tet_reader.specs.Headers.{header_numbers, node_numbers, ele_numbers, IsNodeHeader, IsEleHeader, number_at, spelling_test}
+use Rattle.tet_reader.specs.Headers.{attribute_limit, header_numbers, node_numbers, ele_numbers, IsNodeHeader, IsEleHeader, number_at, spelling_test}
 use Rattle.tet_reader.specs.Headers.{count_test, corners_test, node_number_tests, ele_number_tests, node_header_tests, ele_header_tests}
 use Rattle.tet_reader.proofs.Tests.{is_within_passes, within_is, unless_none, none_unless, FindNone, each_none}
+use Rattle.liszt_base.specs.Limits.{point_limit, cell_limit}
 
 -- the number is natural and within these bounds
 abbrev Within : ℕ → ℕ → ℤ → Type 0
@@ -84,9 +85,9 @@ node_made words (a ∷ []) s e l h = absurd (omega arith)
 node_made words (a ∷ b ∷ []) s e l h = absurd (omega arith)
 node_made words (a ∷ b ∷ c ∷ []) s e l h = absurd (omega arith)
 node_made words (a ∷ b ∷ c ∷ d ∷ []) s e l h =
-    let points = count_spelled 200000 a h.0 in
+    let points = count_spelled point_limit a h.0 in
     let dimension = exactly 3 b (within_spelled 3 3 Dimension b h.1.0) in
-    let attributes = within_spelled 0 64 Header c h.1.1.0 in
+    let attributes = within_spelled 0 attribute_limit Header c h.1.1.0 in
     let markers = within_spelled 0 1 Header d h.1.1.1.0 in
     let are = e ∙ cc (points.0, dimension, attributes.0, markers.0) in
     record { spelled = s; numbers = are; points_fit = points.2; attributes_fit = attributes.2; markers_fit = markers.2 }
@@ -105,8 +106,8 @@ pub node_header_passes : (words : List (List ℕ)) (points attributes markers : 
 node_header_passes words points attributes markers h =
     let numbers : List ℤ = pos points ∷ pos 3 ∷ pos attributes ∷ pos markers ∷ [] in
     let few = few_words 4 (pos 0 ∷ pos 3 ∷ pos 0 ∷ pos 0 ∷ []) numbers words refl refl h.numbers in
-    let points_fit = none_unless _ TooMany (le-leb points 200000 h.points_fit) in
-    let attributes_fit = within_passes 0 64 attributes Header (omega arith) h.attributes_fit in
+    let points_fit = none_unless _ TooMany (le-leb points point_limit h.points_fit) in
+    let attributes_fit = within_passes 0 attribute_limit attributes Header (omega arith) h.attributes_fit in
     let markers_fit = within_passes 0 1 markers Header (omega arith) h.markers_fit in
     let rest : FindNone (node_number_tests numbers) = (points_fit, (refl, (attributes_fit, (markers_fit, tt)))) in
     (spelling_passes 4 words few h.spelled, subst (λ (l : List ℤ). FindNone (node_number_tests l)) (sym h.numbers) rest)
@@ -132,9 +133,9 @@ ele_made words [] s e l h = absurd (omega arith)
 ele_made words (a ∷ []) s e l h = absurd (omega arith)
 ele_made words (a ∷ b ∷ []) s e l h = absurd (omega arith)
 ele_made words (a ∷ b ∷ c ∷ []) s e l h =
-    let cells = count_spelled 1000000 a h.0 in
+    let cells = count_spelled cell_limit a h.0 in
     let corners = four_spelled b h.1.0 in
-    let attributes = within_spelled 0 64 Header c h.1.1.0 in
+    let attributes = within_spelled 0 attribute_limit Header c h.1.1.0 in
     record { spelled = s; numbers = e ∙ cc (cells.0, corners, attributes.0); cells_fit = cells.2; attributes_fit = attributes.2 }
 ele_made words (a ∷ b ∷ c ∷ d ∷ more) s e l h = absurd (omega arith)
 
@@ -150,8 +151,8 @@ pub ele_header_passes : (words : List (List ℕ)) (cells attributes : ℕ) → I
 ele_header_passes words cells attributes h =
     let numbers : List ℤ = pos cells ∷ pos 4 ∷ pos attributes ∷ [] in
     let few = few_words 3 (pos 0 ∷ pos 4 ∷ pos 0 ∷ []) numbers words refl refl h.numbers in
-    let cells_fit = none_unless _ TooMany (le-leb cells 1000000 h.cells_fit) in
-    let attributes_fit = within_passes 0 64 attributes Header (omega arith) h.attributes_fit in
+    let cells_fit = none_unless _ TooMany (le-leb cells cell_limit h.cells_fit) in
+    let attributes_fit = within_passes 0 attribute_limit attributes Header (omega arith) h.attributes_fit in
     let rest : FindNone (ele_number_tests numbers) = (cells_fit, (refl, (attributes_fit, tt))) in
     (spelling_passes 3 words few h.spelled, subst (λ (l : List ℤ). FindNone (ele_number_tests l)) (sym h.numbers) rest)
 

@@ -9,7 +9,7 @@ loop-byte-preserved c =
     let passed = c.args.self.now.passed in
     let i = c.loop-byte.byte-index in (
       c.loop-byte.invariant.0,
-      c.past-self.ensures
+      c.place_after_byte-self.ensures
           ∙ ap (λ p. place_after_byte p (get_or (take (passed + c.args.size - passed) (drop passed text)) i 0)) c.loop-byte.invariant.1
           ∙ past_in_part text passed (passed + c.args.size - passed) i c.loop-byte-test.true,
     )
