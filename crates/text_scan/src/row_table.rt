@@ -35,7 +35,8 @@ impl Model for RowTable {
       last = drop a.closed a.words;
     } };
 
-    ghost invariant = { λ a. AreEnds 0 (map (λ e. e.end) a.ends.items) a.closed × (a.closed ≤ length a.words) };
+    ghost invariant = { λ a. AreEnds 0 (map (λ e. e.end) a.ends.items) a.closed
+        × (a.closed ≤ length a.words) };
 }
 
 impl RowTable {
