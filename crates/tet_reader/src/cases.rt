@@ -44,13 +44,7 @@ fn first_faults()
     ensures dimension_before_attributes { first_mesh_fault (codes "1 2 65") []
         ≡ Some (record { file = InNode; line = 1; what = Dimension; number = pos 0 }) }
     ensures count_before_dimension { first_mesh_fault (codes "200001 2") []
-        ≡ Some (record {
-          file = InNode;
-          line = 1;
-          what = TooMany;
-          number = pos
-              (point_limit + 1);
-        }) }
+        ≡ Some (record { file = InNode; line = 1; what = TooMany; number = pos (point_limit + 1) }) }
     ensures negative_count { first_mesh_fault (codes "-1") []
         ≡ Some (record { file = InNode; line = 1; what = Header; number = pos 0 }) }
     ensures first_number { first_mesh_fault (codes "1\n2 0 0 0\n") []
@@ -138,11 +132,5 @@ fn node_files()
     ensures empty { first_mesh_fault (codes "") (codes "")
         ≡ Some (record { file = InNode; line = 0; what = Header; number = pos 0 }) }
     ensures many { first_mesh_fault (codes "200001 3 0 0\n") (codes "")
-        ≡ Some (record {
-          file = InNode;
-          line = 1;
-          what = TooMany;
-          number = pos
-              (point_limit + 1);
-        }) }
+        ≡ Some (record { file = InNode; line = 1; what = TooMany; number = pos (point_limit + 1) }) }
 {}
