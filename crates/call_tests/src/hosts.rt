@@ -45,6 +45,9 @@ fn real_files(rt: HostRuntime) -> Result<(), Fail> {
     compare_run(&rt, "read fault node\n", Ended::ReadFault(Input::Node))?;
     fs::create_dir(&rt, "n")?;
     compare_run(&rt, "read fault node\n", Ended::ReadFault(Input::Node))?;
+    fs::remove_dir(&rt, "n")?;
+    fs::remove_file(&rt, "p")?;
+    fs::remove_file(&rt, "e")?;
     Ok(())
 }
 
