@@ -1,5 +1,5 @@
 -- Acts on different words commute.
-use Rattle.std.proofs.Common.{◌≡◌, ◌≢◌, ℕ, ℤ, pos, Bool, false, List, [], ◌∷◌, length, set, None, Some, refl, sym, ap, ap₂, ◌∙◌, inl, inr, get_or-set_other, length-set}
+use Rattle.std.proofs.Common.{◌≡◌, ◌≢◌, ℕ, ℤ, pos, false, List, [], ◌∷◌, length, set, None, Some, refl, sym, ap, ap₂, ◌∙◌, inl, inr, get_or-set_other, length-set}
 use Rattle.std.proofs.lemmas.List.{set_comm}
 use Rattle.std.specs.declared.option.Option.{Option}
 use Rattle.liszt_base.specs.Reductions.{fold}

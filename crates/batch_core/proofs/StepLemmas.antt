@@ -1,10 +1,9 @@
 -- A turn as the code makes it.
-use Rattle.std.proofs.Common.{◌≡◌, ℕ, zero, suc, ◌+◌, ◌<◌, ℤ, List, [], ◌∷◌, length, set, get_or, drop, None, Some, refl, sym, ap, ap₂, ◌∙◌, subst, inl, arith, length-set}
-use Rattle.std.specs.Prelude.{slice_get}
+use Rattle.std.proofs.Common.{◌≡◌, ℕ, zero, suc, ◌+◌, ◌<◌, ℤ, List, [], ◌∷◌, length, set, get_or, drop, None, Some, refl, sym, ap, ap₂, ◌∙◌, subst, inl, inr, map, arith, length-set}
+use Rattle.std.specs.Prelude.{slice_get, All}
 use Rattle.std.specs.declared.option.Option.{Option}
 use Rattle.batch_core.specs.declared.acts.Act.{Act}
-use Rattle.batch_core.specs.Machine.{Worker, Machine, word, words_after, register_after, step_with, step_of, step, run, answer, answer_of, answer_with, Member, Remains, InRange}
-use Rattle.batch_core.specs.declared.acts.Stepped.{Stepped}
+use Rattle.batch_core.specs.Machine.{Worker, Machine, AreBelow, machine_at_start, worker_at_start, word, words_after, register_after, step_with, HasSizesOf, step_of, step, run, answer, answer_of, answer_with, Member, InRange}
 use Rattle.batch_core.specs.declared.acts.Stepped.TheVariants.{Acted, Idle}
 use Rattle.batch_core.specs.Internal.Steps.{next_act, worker_after}
 use Rattle.batch_core.proofs.ActLemmas.{length_after}
@@ -81,16 +80,22 @@ step_made m i g h k a r s ws n at_g at_h at_k is next words loaded new =
     (new ∙ ap (λ q. worker_after q k.acts) (loaded ∙ ap (λ q. register_after m.words q a) reg))
     ∙ sym (acted_step m i k a at_k (ap (λ w. next_act w.acts) (sym hk) ∙ next))
 
-pub number_kept : (m : Machine) (i : ℕ) → length (step m i).workers ≡ length m.workers
-number_kept m i = go (slice_get m.workers i)
+pub sizes_kept : (m : Machine) (i : ℕ) → HasSizesOf m (step m i)
+sizes_kept m i = go (slice_get m.workers i)
   where
-    acts : (g : Worker) (l : List Act) → length (step_with m i g l).workers ≡ length m.workers
-    acts g [] = refl
-    acts g (a ∷ rest) = length-set m.workers i (record { register = register_after m.words g.register a; acts = rest })
+    acts : (g : Worker) (l : List Act) → HasSizesOf m (step_with m i g l)
+    acts g [] = record { words = refl; workers = refl }
+    acts g (a ∷ rest) = record {
+      words = length_after m.words g.register a;
+      workers = length-set m.workers i (record { register = register_after m.words g.register a; acts = rest });
+    }
 
-    go : (o : Option Worker) → length (step_of m i o).workers ≡ length m.workers
-    go None = refl
+    go : (o : Option Worker) → HasSizesOf m (step_of m i o)
+    go None = record { words = refl; workers = refl }
     go (Some g) = acts g g.acts
+
+pub sizes_twice : (m n k : Machine) → HasSizesOf m n → HasSizesOf n k → HasSizesOf m k
+sizes_twice m n k a b = record { words = b.words ∙ a.words; workers = b.workers ∙ a.workers }
 
 -- one more turn of a list
 pub run_one_more : (m n : Machine) (k i : ℕ) (turns : List ℕ) → run m (drop k turns) ≡ run n turns → slice_get turns k ≡ Some i
@@ -101,3 +106,20 @@ run_one_more m n k i turns e at = ap (run m) (sym (from k turns at)) ∙ e
     from k [] at = absurd cc
     from zero (x ∷ xs) at = ap (λ (y : ℕ). y ∷ xs) cc
     from (suc k) (x ∷ xs) at = let one : suc k + 1 ≡ suc (k + 1) = omega arith in from k xs at ∙ ap (λ j. i ∷ drop j (x ∷ xs)) (sym one)
+
+-- the words of the acts at the start
+member_below : (n : ℕ) (acts : List Act) → AreBelow n acts → (a : Act) → Member a acts → word a < n
+member_below n [] h a m = absurd m
+member_below n (b ∷ bs) h a m = elim m [
+  | inl e ↦ subst (λ c. word c < n) e (h 0 b (omega arith))
+  | inr r ↦ member_below n bs (λ k d lt. h (suc k) d (omega arith)) a r
+]
+
+below_at : (n : ℕ) (lists : List (List Act)) → All (AreBelow n) lists → (i : ℕ) (h : Worker) → slice_get (map worker_at_start lists) i ≡ Some h
+    → AreBelow n h.acts
+below_at n [] all i h e = absurd cc
+below_at n (l ∷ ls) all zero h e = let same : worker_at_start l ≡ h = cc in subst (λ (w : Worker). AreBelow n w.acts) same (all 0 l (omega arith))
+below_at n (l ∷ ls) all (suc i) h e = below_at n ls (λ k d lt. all (suc k) d (omega arith)) i h e
+
+pub lists_in_range : (words : List ℤ) (lists : List (List Act)) → All (AreBelow (length words)) lists → InRange (machine_at_start words lists)
+lists_in_range words lists all i a r = member_below (length words) r.worker.acts (below_at (length words) lists all i r.worker r.at_index) a r.member

@@ -3,7 +3,7 @@ use Rattle.std.proofs.Common.{◌≡◌, ◌≢◌, ◌⊎◌, ◌<◌, ℕ, zer
 use Rattle.std.specs.Prelude.{slice_get}
 use Rattle.std.specs.declared.option.Option.{Option}
 use Rattle.batch_core.specs.declared.acts.Act.{Act}
-use Rattle.batch_core.specs.declared.acts.Act.TheVariants.{Read, Load, Put, Fold}
+use Rattle.batch_core.specs.declared.acts.Act.TheVariants.{Read, Load, Fold}
 use Rattle.batch_core.specs.Machine.{Worker, Machine, value_at, word, words_after, register_after, step_with, step_of, step, run, finished, all_finished, sequential_result, Member, Remains, is_read, FoldsAreLoaded, Apart, Reads, AreFinished, IsFinished}
 use Rattle.batch_core.proofs.ActLemmas.{AreFree, list_comm, register_after_list, value_kept}
 
@@ -84,9 +84,12 @@ apart_after m r i g a rest t = record {
     | inl s ↦ subst (FoldsAreLoaded (words_after m.words g.register a)) s.1 (folds_after m r i g a rest t)
     | inr s ↦ λ k w op v f. elim (r.folds j h s.1 k w op v f) [
       | inl p ↦ inl p
-      | inr p ↦ inr (p.0, p.1 ∙ sym (value_kept m.words g.register a w (λ u q.
-        r.separate i j a (Fold w op v) (λ z. s.0 (sym z)) (turn_remains m i g a rest t)
-        record { worker = h; at_index = s.1; member = member_at h.acts k (Fold w op v) f } u (sym q))))
+      | inr p ↦ inr (
+        p.0,
+        p.1 ∙ sym (value_kept m.words g.register a w (λ u q.
+            r.separate i j a (Fold w op v) (λ z. s.0 (sym z)) (turn_remains m i g a rest t)
+            record { worker = h; at_index = s.1; member = member_at h.acts k (Fold w op v) f } u (sym q))),
+      )
     ]
   ];
 }

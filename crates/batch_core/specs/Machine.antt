@@ -1,6 +1,6 @@
 -- The machine of a batch: words, and workers with lists of acts and a register each. One event is the first remaining act of one
 -- worker. This project's own.
-use Rattle.std.specs.Prelude.{◌≡◌, ◌≢◌, ◌⊎◌, ◌<◌, ℕ, suc, ℤ, pos, Bool, true, false, List, [], ◌∷◌, set, get_or, length, map, slice_get}
+use Rattle.std.specs.Prelude.{◌≡◌, ◌≢◌, ◌⊎◌, ◌<◌, ℕ, suc, ℤ, pos, Bool, true, false, List, [], ◌∷◌, set, get_or, length, map, slice_get, All}
 use Rattle.std.specs.declared.option.Option.{Option}
 use Rattle.std.specs.declared.option.Option.TheVariants.{None, Some}
 use Rattle.liszt_base.specs.Reductions.{fold}
@@ -137,3 +137,12 @@ Reads m w = (i : ℕ) × Remains m i (Read w)
 -- each word of an act is one of the machine's
 abbrev pub InRange : Machine → Type 0
 InRange m = (i : ℕ) (a : Act) → Remains m i a → word a < length m.words
+
+-- as many words and workers
+pub record HasSizesOf (m n : Machine) : Type 0 where
+  pub words : length n.words ≡ length m.words
+  pub workers : length n.workers ≡ length m.workers
+
+-- each word of these acts is below n
+abbrev pub AreBelow : ℕ → List Act → Type 0
+AreBelow n acts = All (λ a. word a < n) acts

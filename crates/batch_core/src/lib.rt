@@ -8,6 +8,8 @@ mod cases;
 pub mod laws;
 mod machine;
 mod shared;
+#[cfg(test)]
+mod tests;
 
 pub use act_lists::ActLists;
 pub use acts::{Act, Stepped};

@@ -1,5 +1,5 @@
 ghost use Rattle.std.specs.Prelude.{◌≡◌, ℕ, ◌<◌, length, All};
-ghost use Rattle.batch_core.specs.Machine.{Apart, IsFinished, InRange, Reads, answer, machine_at_start, register_after, run, sequential_result, step, value_at, word, words_after};
+ghost use Rattle.batch_core.specs.Machine.{Apart, HasSizesOf, IsFinished, InRange, Reads, answer, machine_at_start, register_after, run, sequential_result, step, value_at, word, words_after};
 
 use crate::act_lists::{ActLists, ActQueue};
 use crate::acts::{Act, Stepped};
@@ -41,6 +41,7 @@ impl Core {
         requires { worker < length self.old.workers }
         ensures machine { self.new ≡ step self.old worker }
         ensures answer { result ≡ answer self.old worker }
+        ensures sizes { HasSizesOf self.old self.new }
     {
         let register = self.workers[worker as usize].register();
         let Some(act) = self.workers[worker as usize].next_act() else {
@@ -55,6 +56,7 @@ impl Core {
     pub fn run(&mut self, turns: &[u32])
         requires { All (λ worker. worker < length self.old.workers) turns.now }
         ensures machine { self.new ≡ run self.old turns.now }
+        ensures sizes { HasSizesOf self.old self.new }
         ensures apart { Apart self.old → Apart self.new }
         ensures result { Apart self.old
             → sequential_result self.new ≡ sequential_result self.old }
@@ -68,7 +70,8 @@ impl Core {
 
     fn take_turns(&mut self, turns: &[u32])
         requires { All (λ worker. worker < length self.old.workers) turns.now }
-        ensures { self.new ≡ run self.old turns.now }
+        ensures machine { self.new ≡ run self.old turns.now }
+        ensures sizes { HasSizesOf self.old self.new }
     {
         for worker in turns {
             self.step(*worker);

@@ -1,4 +1,4 @@
-use Rattle.std.proofs.Common.{◌≡◌, ℤ, List, ap, ap₂, sym, ◌∙◌, to_z-of_z}
+use Rattle.std.proofs.Common.{ℤ, List, ap, ap₂, sym, ◌∙◌, to_z-of_z}
 use Rattle.batch_core.specs.declared.acts.Act.{Act}
 use Rattle.batch_core.specs.Machine.{Worker}
 use Rattle.batch_core.proofs.StepLemmas.{worker_after_is, drop_one_more}

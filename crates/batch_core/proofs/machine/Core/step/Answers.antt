@@ -1,7 +1,7 @@
 use Rattle.std.proofs.Common.{rules, ◌≡◌, ◌<◌, sym, ap, subst, ◌∙◌, length, to_z, of_z, w64}
-use Rattle.batch_core.specs.Machine.{Machine, InRange, answer, step}
+use Rattle.batch_core.specs.Machine.{Machine, HasSizesOf, InRange, answer, step}
 use Rattle.batch_core.specs.Internal.Steps.{worker_after}
-use Rattle.batch_core.proofs.StepLemmas.{at_index, step_made, acted_answer, next_in_range, range_kept}
+use Rattle.batch_core.proofs.StepLemmas.{at_index, step_made, acted_answer, next_in_range, range_kept, sizes_kept}
 use Rattle.batch_core.proofs.machine.Core.step.Goals as goal
 
 pub returns-clause-machine : goal.returns-clause-machine
@@ -41,3 +41,7 @@ returns-clause-answer c =
     let lt : c.args.worker < length inside.workers.items = subst (λ (z : Machine). c.args.worker < length z.workers) (sym c.self.view_is) c.requires in
     sym (ap (λ z. answer z c.args.worker) (sym c.self.view_is) ∙ acted_answer m c.args.worker c.index-2.result.now c.in-Some.act
     (at_index inside.workers.items c.args.worker c.index-2.result.now lt c.index-2.ensures) (sym c.next_act.ensures ∙ c.in-Some.is))
+
+pub returns-clause-sizes : goal.returns-clause-sizes
+returns-clause-sizes c =
+    subst (HasSizesOf c.args.self.now) (sym (returns-clause-machine c)) (sizes_kept c.args.self.now c.args.worker)
