@@ -1,0 +1,6 @@
+pub mod MapLemmas
+pub mod OwnershipLemmas
+pub mod SeatLemmas
+pub mod SharedLemmas
+pub mod StepLemmas
+pub mod SumLemmas
