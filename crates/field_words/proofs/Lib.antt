@@ -1,3 +1,4 @@
+pub mod EventLemmas
 pub mod MapLemmas
 pub mod OwnershipLemmas
 pub mod SeatLemmas

@@ -1,11 +1,15 @@
 //! What the rule of ownership says, each law the contract of a function that does nothing.
 
-ghost use Rattle.std.specs.Prelude.{◌≡◌, ◌≢◌, ◌⊎◌, ◌+◌, ◌<◌, ◌≤◌, ℕ, ℤ, [], slice_index};
+ghost use Rattle.std.specs.Prelude.{◌≡◌, ◌≢◌, ◌⊎◌, ◌+◌, ◌<◌, ◌≤◌, ℕ, ℤ, List, [], length, slice_index};
 ghost use Rattle.std.specs.declared.option.Option.TheVariants.{Some};
 ghost use mathlib.Core.Option.{some};
 ghost use lib.ListN.{get_elem?};
 ghost use Rattle.liszt_base.specs.Reductions.{value};
+ghost use Rattle.batch_core.specs.declared.acts.Act.{Act};
+ghost use Rattle.batch_core.specs.Machine.{register_after, word, words_after};
 ghost use Rattle.field_words.specs.declared.view.View.{View};
+ghost use Rattle.field_words.specs.Events.{HaveValues, IsEvent};
+ghost use Rattle.field_words.specs.Holdings.{Holding};
 ghost use Rattle.field_words.specs.Maps.{value_in, has};
 ghost use Rattle.field_words.specs.Ownership.{TableState, IsOwned, total};
 
@@ -34,4 +38,12 @@ pub fn ownership()
     ensures shares { (n : ℕ) (s : TableState) → IsOwned n s → total (λ v. v.share) s.views ≡ 65 }
     ensures spent { (n : ℕ) (s : TableState) → IsOwned n s → (j : ℕ) (v : View)
         → get_elem? s.views j ≡ some v → v.share ≡ 0 → (v.own ≡ []) × (v.frozen ≡ []) }
+{}
+
+/// An event through a seat does to the seat's own words and to the worker's register what its act does in the batch machine.
+pub fn events_are_acts()
+    ensures { (a : Act) (words : List ℤ) (h k : Holding) (register after : ℤ)
+        → word a < length words → HaveValues words h.own → IsEvent a h register k after
+        → HaveValues (words_after words register a) k.own
+            × (after ≡ register_after words register a) }
 {}

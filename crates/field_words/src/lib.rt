@@ -7,6 +7,8 @@ mod parts;
 mod rule;
 mod shared;
 mod table;
+#[cfg(test)]
+mod tests;
 mod view;
 
 pub use rule::Part;

@@ -151,7 +151,7 @@ impl FieldTable {
     fn freeze_as<A: Span>(&self, s: &mut FieldSeat, first: u32, count: u32)
         requires range { (A.first ≡ first) × (A.count ≡ count) }
         requires table { s.old.table ≡ self.now }
-        requires share { s.old.share ≡ 65 }
+        requires full_share { s.old.share ≡ 65 }
         ensures { s.new ≡ after_freeze first count s.old }
     {
         self.table.shared.load::<Freeze<A>>(&mut s.seat, 0);

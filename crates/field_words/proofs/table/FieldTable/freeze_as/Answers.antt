@@ -7,7 +7,7 @@ use Rattle.field_words.proofs.table.FieldTable.freeze_as.Goals as goal
 pub load-requires : goal.load-requires
 load-requires g c =
     let same : c.s.inside.seat.table_id ≡ c.self.inside.table.shared.table_id = ap (λ h. h.table) c.s.view_is ∙ (c.requires.table ∙ sym c.self.view_is) in
-    (same, subst (λ n. 0 < n) (sym c.self.invariant) (omega arith), freeze_keeps c.self.inside.table.shared.key c.self.inside.table.shared.table_id.slots c.s.inside.seat.id g.A.Span.first g.A.Span.count c.s.inside.seat.me (ap (λ h. h.share) c.s.view_is ∙ c.requires.share))
+    (same, subst (λ n. 0 < n) (sym c.self.invariant) (omega arith), freeze_keeps c.self.inside.table.shared.key c.self.inside.table.shared.table_id.slots c.s.inside.seat.id g.A.Span.first g.A.Span.count c.s.inside.seat.me (ap (λ h. h.share) c.s.view_is ∙ c.requires.full_share))
 
 pub invariant_of-s : goal.invariant_of-s
 invariant_of-s g c = seat_invariant c.s.inside.seat.table_id c.load.new.seat.table_id c.load.new.seat.me _ _ c.load.ensures.0 c.load.ensures.2 c.s.invariant.0 (seat_frozen c.s.inside.seat.table_id.words g.A.Span.first g.A.Span.count c.s.inside.seat.me.0 c.s.invariant.1)
