@@ -1,4 +1,5 @@
 pub mod EventLemmas
+pub mod FillLemmas
 pub mod MapLemmas
 pub mod OwnershipLemmas
 pub mod SeatLemmas

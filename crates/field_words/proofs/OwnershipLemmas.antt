@@ -25,7 +25,7 @@ has_at_most m x = go (value_in m x)
     go None = omega arith
     go (Some u) = omega arith
 
-is_word_inside : (n x : ℕ) → 0 < x → x ≤ n → is_word n x ≡ 1
+pub is_word_inside : (n x : ℕ) → 0 < x → x ≤ n → is_word n x ≡ 1
 is_word_inside n x lo hi = grind (arith, nat_tests)
 
 pub frozen_is_present : (n : ℕ) (s : TableState) → IsOwned n s → (j x : ℕ) (v : View) (u : ℤ) → get_elem? s.views j ≡ some v → value_in v.frozen x ≡ Some u → value (slice_index s.words x) ≡ u
