@@ -1,5 +1,5 @@
 -- Workers that fill words of their own, one range after the other.
-use Rattle.std.proofs.Common.{◌≡◌, ℕ, zero, suc, ℤ, pos, ◌+◌, ◌-◌, ◌<◌, ◌≤◌, Bool, true, false, not, cond, ◌&&◌, ◌||◌, eqb, eqb-true, ltb, leb, ◌∷◌, Some, None, refl, sym, ap, ap₂, ◌∙◌, subst, arith}
+use Rattle.std.proofs.Common.{◌≡◌, ℕ, zero, suc, ℤ, pos, ◌+◌, ◌-◌, ◌<◌, ◌≤◌, Bool, true, false, not, cond, ◌||◌, eqb, eqb-true, Some, None, refl, sym, ap, ap₂, ◌∙◌, subst, arith}
 use Rattle.std.specs.List.{range_with_len}
 use Rattle.std.specs.declared.option.Option.{Option}
 use Rattle.std.proofs.lemmas.Bool.Decides.{nat_tests}
@@ -92,12 +92,12 @@ both_filled first n m h k l p q e some_share ik il fp fq ie =
       share = omega arith;
       values = λ x. value_in_append p.own q.own x
           ∙ value_after (is_within first n x) (is_within (first + n) m x) (is_within first (n + m) x) (value_in h.own x) (Some (pos x))
-              (value_in k.own x) (value_in l.own x) (value_in p.own x) (value_in q.own x) (whole x) (apart x)
-              (ap (λ (z : Holding). value_in z.own x) ik ∙ value_in_restricted (λ y. not (is_in (range_with_len first n) y)) h.own x
-                  ∙ ap (λ b. cond (not b) (value_in h.own x) None) (is_in_range first n x))
-              (ap (λ (z : Holding). value_in z.own x) il ∙ value_in_restricted (is_in (range_with_len first n)) h.own x
-                  ∙ ap (λ b. cond b (value_in h.own x) None) (is_in_range first n x))
-              (fp.values x) (fq.values x);
+          (value_in k.own x) (value_in l.own x) (value_in p.own x) (value_in q.own x) (whole x) (apart x)
+          (ap (λ (z : Holding). value_in z.own x) ik ∙ value_in_restricted (λ y. not (is_in (range_with_len first n) y)) h.own x
+          ∙ ap (λ b. cond (not b) (value_in h.own x) None) (is_in_range first n x))
+          (ap (λ (z : Holding). value_in z.own x) il ∙ value_in_restricted (is_in (range_with_len first n)) h.own x
+          ∙ ap (λ b. cond b (value_in h.own x) None) (is_in_range first n x))
+          (fp.values x) (fq.values x);
     }
   where
     whole : (x : ℕ) → is_within first (n + m) x ≡ (is_within first n x || is_within (first + n) m x)

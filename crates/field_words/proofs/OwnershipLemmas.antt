@@ -1,5 +1,5 @@
 -- Consequences of the rule of ownership.
-use Rattle.std.proofs.Common.{◌≡◌, ◌⊎◌, ℕ, zero, suc, ℤ, ◌+◌, ◌<◌, ◌≤◌, List, [], ◌∷◌, Some, None, refl, sym, ap, ◌∙◌, inl, inr, arith, ltb, leb, cond, ◌&&◌}
+use Rattle.std.proofs.Common.{◌≡◌, ◌⊎◌, ℕ, suc, ℤ, ◌+◌, ◌<◌, ◌≤◌, List, [], ◌∷◌, Some, None, refl, sym, ap, ◌∙◌, inl, inr, arith}
 use Rattle.std.specs.Prelude.{slice_index}
 use mathlib.Core.Option.{some}
 use mathlib.Core.Logic.{dite}
@@ -11,7 +11,7 @@ use Rattle.liszt_base.specs.Reductions.{value}
 use Rattle.field_words.specs.declared.view.View.{View}
 use Rattle.field_words.specs.Maps.{WordMap, value_in, number_of, has}
 use Rattle.field_words.specs.Ownership.{TableState, total, is_word, IsOwned}
-use Rattle.field_words.proofs.StepLemmas.{owned_once, owned_or_frozen}
+use Rattle.field_words.proofs.StepLemmas.{owned_or_frozen}
 
 -- a total that isn't 0 has a part that isn't
 positive_part : (f : View → ℕ) (vs : List View) → 0 < total f vs → (j : ℕ) × (v : View) × (get_elem? vs j ≡ some v) × (0 < f v)

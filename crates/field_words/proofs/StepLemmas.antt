@@ -1,5 +1,5 @@
 -- Each kind of step keeps the rule of ownership.
-use Rattle.std.proofs.Common.{◌≡◌, ◌≢◌, ◌⊎◌, ℕ, zero, suc, ℤ, ◌+◌, ◌-◌, ◌<◌, ◌≤◌, not, eqb, eqb-true, List, [], ◌∷◌, ◌++◌, length, set, get_or, Some, None, Bool, true, false, cond, refl, sym, ap, ◌∙◌, subst, ⊎_elim, arith, length-set, get_or-set_other, get_or-set_same, replicate, pos}
+use Rattle.std.proofs.Common.{◌≡◌, ◌≢◌, ℕ, zero, suc, ℤ, ◌+◌, ◌<◌, ◌≤◌, not, eqb, eqb-true, List, [], ◌∷◌, length, set, get_or, Some, Bool, true, false, cond, refl, sym, ap, ◌∙◌, subst, ⊎_elim, arith, length-set, get_or-set_other, get_or-set_same, replicate, pos}
 use Rattle.std.specs.Prelude.{slice_index}
 use Rattle.std.proofs.lemmas.Bool.{eqb-false}
 use Rattle.std.proofs.lemmas.List.{length-replicate}
@@ -10,9 +10,9 @@ use Rattle.atomic_table.specs.Table.{step, keeps, stepped, opening, Allows, Spli
 use Rattle.atomic_table.proofs.Lists.{at_set, at_snoc, set_else}
 use Rattle.liszt_base.specs.Reductions.{value}
 use Rattle.field_words.specs.declared.view.View.{View}
-use Rattle.field_words.specs.Maps.{WordMap, Each, value_in, number_of, has, restricted, is_in, is_within, zero_words}
+use Rattle.field_words.specs.Maps.{WordMap, value_in, number_of, has, restricted, is_in, is_within, zero_words}
 use Rattle.field_words.specs.Views.{first_view, spent_view, counted_view, stored_view, kept_view, handed_view, joined_view, frozen_view, thawed_view}
-use Rattle.field_words.specs.Ownership.{TableState, total, is_word, IsPresent, ViewFits, IsOwned}
+use Rattle.field_words.specs.Ownership.{TableState, IsPresent, ViewFits, IsOwned}
 use Rattle.field_words.specs.Internal.Plays.{SeatState, LoadsOwn, LoadsFrozen, StoresOwn, Freezes, Thaws}
 use Rattle.field_words.proofs.MapLemmas.{is_word_at_most, is_word_at_most_n, has_zero_words, each_restricted, each_append, each_of_none, has_restricted, has_append, has_value}
 use Rattle.field_words.proofs.SumLemmas.{total_set, total_snoc, total_at, total_two}
@@ -237,4 +237,3 @@ first_state_owned n = record {
     one : (j : ℕ) (v : View) → get_elem? (first_view n ∷ []) j ≡ some v → ViewFits (replicate (n + 1) 0) [] v
     one zero v e = subst (ViewFits (replicate (n + 1) 0) []) (some-injective _ _ e) record { own = zero_words_present n (n + 1); same = λ _. refl; spent = λ z. absurd (omega arith) }
     one (suc j) v e = absurd (some-ne-none v (sym e))
-

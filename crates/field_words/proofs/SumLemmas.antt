@@ -1,5 +1,5 @@
 -- Sums over the views of all seats.
-use Rattle.std.proofs.Common.{◌≡◌, ◌≢◌, ℕ, zero, suc, ◌+◌, ◌<◌, ◌≤◌, List, [], ◌∷◌, ◌++◌, set, refl, sym, ap, arith}
+use Rattle.std.proofs.Common.{◌≡◌, ◌≢◌, ℕ, zero, suc, ◌+◌, ◌≤◌, List, [], ◌∷◌, ◌++◌, set, refl, sym, ap, arith}
 use mathlib.Core.Option.{some, some-injective, some-ne-none}
 use lib.ListN.{get_elem?}
 use Rattle.field_words.specs.declared.view.View.{View}
@@ -25,4 +25,3 @@ total_two f (x ∷ xs) zero zero v w n e h = absurd (n refl)
 total_two f (x ∷ xs) zero (suc j) v w n e h = let same : f x ≡ f v = ap f (some-injective x v e) in let t = total_at f xs j w h in omega arith
 total_two f (x ∷ xs) (suc i) zero v w n e h = let same : f x ≡ f w = ap f (some-injective x w h) in let t = total_at f xs i v e in omega arith
 total_two f (x ∷ xs) (suc i) (suc j) v w n e h = let t = total_two f xs i j v w (λ q. n (ap suc q)) e h in omega arith
-

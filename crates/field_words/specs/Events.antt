@@ -1,6 +1,6 @@
 -- Which act of the batch machine a call is. A load of an own word is a Load, and a load of a frozen word a Read. A store is a Put, and
 -- the store of each Fold whose result is the stored value. Split, join, freeze and thaw are no acts. This project's own.
-use Rattle.std.specs.Prelude.{◌≡◌, ℕ, ℤ, List}
+use Rattle.std.specs.Prelude.{◌≡◌, ℤ, List}
 use Rattle.std.specs.declared.option.Option.TheVariants.{Some}
 use Rattle.liszt_base.specs.Reductions.{fold}
 use Rattle.batch_core.specs.declared.acts.Act.{Act}

@@ -34,7 +34,7 @@ pub fn ownership()
         → 0 < v.share → 0 < w.share → v.frozen ≡ w.frozen }
     ensures owned_or_frozen { (n : ℕ) (s : TableState) → IsOwned n s → (x : ℕ) → 0 < x → x ≤ n
         → (j : ℕ) × (v : View) × (get_elem? s.views j ≡ some v)
-            × ((has x v.own ≡ 1) ⊎ (has x v.frozen ≡ 1)) }
+        × ((has x v.own ≡ 1) ⊎ (has x v.frozen ≡ 1)) }
     ensures shares { (n : ℕ) (s : TableState) → IsOwned n s → total (λ v. v.share) s.views ≡ 65 }
     ensures spent { (n : ℕ) (s : TableState) → IsOwned n s → (j : ℕ) (v : View)
         → get_elem? s.views j ≡ some v → v.share ≡ 0 → (v.own ≡ []) × (v.frozen ≡ []) }
@@ -45,5 +45,5 @@ pub fn events_are_acts()
     ensures { (a : Act) (words : List ℤ) (h k : Holding) (register after : ℤ)
         → word a < length words → HaveValues words h.own → IsEvent a h register k after
         → HaveValues (words_after words register a) k.own
-            × (after ≡ register_after words register a) }
+        × (after ≡ register_after words register a) }
 {}

@@ -7,8 +7,8 @@ ghost use Rattle.field_words.specs.Maps.{value_in};
 ghost use Rattle.field_words.specs.Holdings.{Owns, OwnsRange, SeesFrozen, after_freeze, after_join, after_load, after_split, after_store, after_thaw, first_holding, handed_over};
 
 use crate::rule::{
-    Freeze, HandedWords, JoinViews, LoadFrozen, LoadOwn, Ownership, Part, Span, SplitView, StoreOwn,
-    Thaw,
+    Freeze, HandedWords, JoinViews, LoadFrozen, LoadOwn, Ownership, Part, Span, SplitView,
+    StoreOwn, Thaw,
 };
 use crate::view::View;
 use atomic_table::{Seat, Table};
@@ -132,9 +132,7 @@ impl FieldTable {
         ensures { s.new ≡ after_join s.old other }
     {
         let FieldSeat { seat } = other;
-        self.table
-            .shared
-            .join_seat::<JoinViews>(&mut s.seat, seat);
+        self.table.shared.join_seat::<JoinViews>(&mut s.seat, seat);
     }
 
     /// Moves `count` own words from `first` on to the frozen ones. The seat has the full share, 65.

@@ -14,12 +14,7 @@ fn no_memory(_: NoMemory) -> AllocError {
 }
 
 /// Two threads store a number each, to words of their own; after the join both are there.
-fn both_stored<R: Threads>(
-    rt: &R,
-    alloc: Global,
-    a: i64,
-    b: i64,
-) -> Result<(i64, i64), NoMemory>
+fn both_stored<R: Threads>(rt: &R, alloc: Global, a: i64, b: i64) -> Result<(i64, i64), NoMemory>
     ensures { IfOk result (λ pair. (pair.0 ≡ a) × (pair.1 ≡ b)) }
 {
     let (table, mut seat) = FieldTable::make(alloc, 2)?;
@@ -86,13 +81,7 @@ fn fill<R: Threads + Sync>(
     if workers == 0 {
         return;
     }
-    let mut given = table.split(
-        seat,
-        &WordRange {
-            first,
-            count: 1000,
-        },
-    );
+    let mut given = table.split(seat, &WordRange { first, count: 1000 });
     join_mut(
         rt,
         &mut ||

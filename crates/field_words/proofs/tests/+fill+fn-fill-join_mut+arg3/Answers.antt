@@ -23,7 +23,7 @@ returns g t c =
     let share : 1 ≤ c.args.seat.now.share = let s = c.requires.share in omega arith in
     let more : c.args.workers * 1000 ≡ 1000 + (c.args.workers - 1) * 1000 = omega arith in
     let whole : (p q : Holding) → c.join.new.s ≡ after_join p q → IsFilled (c.args.first + 1000) ((c.args.workers - 1) * 1000) c.split-given.new.s p
-        → IsFilled c.args.first 1000 c.split-given.result q → IsFilled c.args.first (c.args.workers * 1000) c.args.seat.now c.join.new.s =
+    → IsFilled c.args.first 1000 c.split-given.result q → IsFilled c.args.first (c.args.workers * 1000) c.args.seat.now c.join.new.s =
     λ p q e others one.
     subst (λ n. IsFilled c.args.first n c.args.seat.now c.join.new.s) (sym more)
     (both_filled c.args.first 1000 ((c.args.workers - 1) * 1000) c.args.seat.now c.split-given.new.s c.split-given.result p q c.join.new.s share

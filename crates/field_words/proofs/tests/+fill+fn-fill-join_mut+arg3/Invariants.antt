@@ -1,4 +1,4 @@
-use Rattle.std.proofs.Common.{◌+◌, ◌-◌, ◌*◌}
+use Rattle.std.proofs.Common.{◌+◌, ◌*◌}
 use Rattle.field_words.proofs.tests.+fill+fn-fill-join_mut+arg3.Given as goal
 
 abbrev pub decreases-fill : goal.decreases-fill

@@ -1,5 +1,4 @@
-use Rattle.std.proofs.Common.{◌≡◌, sym, ap, ◌∙◌, subst, ◌<◌, rules, arith, Some, ◌≤◌, ◌+◌, [], refl}
-use Rattle.field_words.specs.Maps.{value_in}
+use Rattle.std.proofs.Common.{◌≡◌, sym, ap, ◌∙◌, subst, ◌<◌, arith}
 use Rattle.field_words.proofs.SeatLemmas.{seat_invariant, seat_frozen}
 use Rattle.field_words.proofs.StepLemmas.{freeze_keeps}
 use Rattle.field_words.proofs.table.FieldTable.freeze_as.Goals as goal

@@ -1,4 +1,4 @@
-use Rattle.std.proofs.Common.{◌≡◌, sym, ap, ◌∙◌, subst, ◌<◌, rules, arith, Some, ◌≤◌, ◌+◌, [], refl}
+use Rattle.std.proofs.Common.{◌≡◌, sym, ap, ◌∙◌, subst, ◌<◌, arith}
 use Rattle.field_words.specs.Holdings.{IsSeat}
 use Rattle.field_words.proofs.SeatLemmas.{seat_invariant, seat_joined}
 use Rattle.field_words.proofs.StepLemmas.{join_keeps}

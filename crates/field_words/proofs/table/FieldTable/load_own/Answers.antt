@@ -1,4 +1,4 @@
-use Rattle.std.proofs.Common.{◌≡◌, sym, ap, ◌∙◌, subst, ◌<◌, rules, arith, Some, ◌≤◌, ◌+◌}
+use Rattle.std.proofs.Common.{◌≡◌, sym, ap, ◌∙◌, subst, ◌<◌, Some}
 use Rattle.field_words.specs.Maps.{value_in}
 use Rattle.field_words.proofs.MapLemmas.{value_of_has}
 use Rattle.field_words.proofs.StepLemmas.{load_own_keeps}

@@ -1,4 +1,4 @@
-use Rattle.std.proofs.Common.{◌≡◌, ℕ, sym, ap, ◌∙◌, subst, ◌<◌, rules, arith, Some, ◌≤◌, ◌+◌, [], refl, replicate, List, length}
+use Rattle.std.proofs.Common.{◌≡◌, ℕ, sym, ap, ◌∙◌, subst, rules, ◌+◌, [], refl, replicate, length}
 use Rattle.std.proofs.lemmas.List.{length-replicate}
 use Rattle.atomic_table.specs.Table.{opening}
 use Rattle.field_words.specs.Ownership.{IsOwned}
