@@ -34,9 +34,9 @@ frozen_is_present n s r j x v u here e = dite (ℕ_discrete v.share 0)
     (λ ne. r.present x u (ap (λ m. value_in m x) (sym ((r.each j v here).same (omega arith))) ∙ e))
 
 pub owned_is_not_frozen : (n : ℕ) (s : TableState) → IsOwned n s → (i j x : ℕ) (v w : View) → get_elem? s.views i ≡ some v → get_elem? s.views j ≡ some w → has x v.own + has x w.frozen ≤ 1
-owned_is_not_frozen n s r i j x v w here present_after_store = dite (ℕ_discrete w.share 0)
-    (λ z. let none : has x w.frozen ≡ 0 = ap (has x) ((r.each j w present_after_store).spent z).1 in let most = has_at_most v.own x in omega arith)
-    (λ ne. let same : has x w.frozen ≡ has x r.frozen = ap (has x) ((r.each j w present_after_store).same (omega arith)) in let b = owned_or_frozen n s r i x v here in omega arith)
+owned_is_not_frozen n s r i j x v w here at_j = dite (ℕ_discrete w.share 0)
+    (λ z. let none : has x w.frozen ≡ 0 = ap (has x) ((r.each j w at_j).spent z).1 in let most = has_at_most v.own x in omega arith)
+    (λ ne. let same : has x w.frozen ≡ has x r.frozen = ap (has x) ((r.each j w at_j).same (omega arith)) in let b = owned_or_frozen n s r i x v here in omega arith)
 
 pub owned_or_frozen_word : (n : ℕ) (s : TableState) → IsOwned n s → (x : ℕ) → 0 < x → x ≤ n → (j : ℕ) × (v : View) × (get_elem? s.views j ≡ some v) × ((has x v.own ≡ 1) ⊎ (has x v.frozen ≡ 1))
 owned_or_frozen_word n s r x lo hi = dite (ℕ_discrete (total (λ v. has x v.own) s.views) 0)
