@@ -52,7 +52,8 @@ value_write ws i w None h = refl
 value_write ws i w (Some x) h = get_or-set_other ws i w x (pos 0) (h x refl)
 
 -- an act keeps the value of every other word
-pub value_kept : (ws : List ℤ) (r : ℤ) (a : Act) (w : ℕ) → (is_read a ≡ false → w ≢ word a) → value_at (words_after ws r a) w ≡ value_at ws w
+pub value_kept : (ws : List ℤ) (r : ℤ) (a : Act) (w : ℕ) → (is_read a ≡ false → w ≢ word a)
+    → value_at (words_after ws r a) w ≡ value_at ws w
 value_kept ws r a w h = ap (λ vs. value_at vs w) (after_is ws r a) ∙ value_write ws (word a) w (stored r a) (λ x e. h (not_read r a x e))
 
 register_kept : (ws : List ℤ) (q r : ℤ) (a b : Act) → AreFree a b → register_after (words_after ws q a) r b ≡ register_after ws r b

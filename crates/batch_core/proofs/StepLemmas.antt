@@ -36,7 +36,8 @@ some_next : (l : List Act) (a : Act) → next_act l ≡ Some a → l ≡ a ∷ d
 some_next [] a e = absurd cc
 some_next (b ∷ rest) a e = let same : b ≡ a = cc in ap (λ c. c ∷ rest) same
 
-pub acted_answer : (m : Machine) (i : ℕ) (h : Worker) (a : Act) → slice_get m.workers i ≡ Some h → next_act h.acts ≡ Some a → answer m i ≡ Acted
+pub acted_answer : (m : Machine) (i : ℕ) (h : Worker) (a : Act) → slice_get m.workers i ≡ Some h → next_act h.acts ≡ Some a
+    → answer m i ≡ Acted
 acted_answer m i h a at next = ap answer_of at ∙ ap answer_with (some_next h.acts a next)
 
 acted_step : (m : Machine) (i : ℕ) (h : Worker) (a : Act) → slice_get m.workers i ≡ Some h → next_act h.acts ≡ Some a
@@ -47,7 +48,8 @@ acted_step m i h a at next =
     ∙ ap (λ w. record { words = words_after m.words h.register a; workers = set m.workers i w })
     (sym (worker_after_is (register_after m.words h.register a) h.acts))
 
-pub next_in_range : (m : Machine) (i : ℕ) (h : Worker) (a : Act) → InRange m → slice_get m.workers i ≡ Some h → next_act h.acts ≡ Some a → word a < length m.words
+pub next_in_range : (m : Machine) (i : ℕ) (h : Worker) (a : Act) → InRange m → slice_get m.workers i ≡ Some h
+    → next_act h.acts ≡ Some a → word a < length m.words
 next_in_range m i h a r at e = r i a record { worker = h; at_index = at; member = subst (Member a) (sym (some_next h.acts a e)) (inl refl) }
 
 pub range_kept : (m : Machine) (i : ℕ) → InRange m → InRange (step m i)
@@ -115,11 +117,13 @@ member_below n (b ∷ bs) h a m = elim m [
   | inr r ↦ member_below n bs (λ k d lt. h (suc k) d (omega arith)) a r
 ]
 
-below_at : (n : ℕ) (lists : List (List Act)) → All (AreBelow n) lists → (i : ℕ) (h : Worker) → slice_get (map worker_at_start lists) i ≡ Some h
+below_at : (n : ℕ) (lists : List (List Act)) → All (AreBelow n) lists → (i : ℕ) (h : Worker)
+    → slice_get (map worker_at_start lists) i ≡ Some h
     → AreBelow n h.acts
 below_at n [] all i h e = absurd cc
 below_at n (l ∷ ls) all zero h e = let same : worker_at_start l ≡ h = cc in subst (λ (w : Worker). AreBelow n w.acts) same (all 0 l (omega arith))
 below_at n (l ∷ ls) all (suc i) h e = below_at n ls (λ k d lt. all (suc k) d (omega arith)) i h e
 
-pub lists_in_range : (words : List ℤ) (lists : List (List Act)) → All (AreBelow (length words)) lists → InRange (machine_at_start words lists)
+pub lists_in_range : (words : List ℤ) (lists : List (List Act)) → All (AreBelow (length words)) lists
+    → InRange (machine_at_start words lists)
 lists_in_range words lists all i a r = member_below (length words) r.worker.acts (below_at (length words) lists all i r.worker r.at_index) a r.member

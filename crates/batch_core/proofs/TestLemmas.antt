@@ -10,7 +10,8 @@ all_of_two P l m p q zero d lt = p
 all_of_two P l m p q (suc zero) d lt = q
 all_of_two P l m p q (suc (suc k)) d lt = absurd (omega arith)
 
-pub two_lists_in_range : (words : List ℤ) (lists : List (List Act)) (l m : List Act) → length words ≡ 2 → lists ≡ l ∷ m ∷ [] → AreBelow 2 l → AreBelow 2 m
+pub two_lists_in_range : (words : List ℤ) (lists : List (List Act)) (l m : List Act) → length words ≡ 2 → lists ≡ l ∷ m ∷ []
+    → AreBelow 2 l → AreBelow 2 m
     → InRange (machine_at_start words lists)
 two_lists_in_range words lists l m size is p q =
     lists_in_range words lists

@@ -12,7 +12,8 @@ abbrev pub after : List ℤ → Worker → Act → List Act → Worker
 after ws g a rest = record { register = register_after ws g.register a; acts = rest }
 
 -- the first act of one worker, done early, keeps the result of all
-result_after : (ws : List ℤ) (hs : List Worker) (i : ℕ) (g : Worker) (a : Act) (rest : List Act) → slice_get hs i ≡ Some g → g.acts ≡ a ∷ rest
+result_after : (ws : List ℤ) (hs : List Worker) (i : ℕ) (g : Worker) (a : Act) (rest : List Act) → slice_get hs i ≡ Some g
+    → g.acts ≡ a ∷ rest
     → ((j : ℕ) (h : Worker) (b : Act) → i ≢ j → slice_get hs j ≡ Some h → Member b h.acts → AreFree a b)
     → all_finished (words_after ws g.register a) (set hs i (after ws g a rest)) ≡ all_finished ws hs
 result_after ws [] i g a rest at is free = absurd cc
@@ -76,7 +77,8 @@ member_at [] k a e = absurd cc
 member_at (b ∷ bs) zero a e = inl cc
 member_at (b ∷ bs) (suc k) a e = inr (member_at bs k a e)
 
-apart_after : (m : Machine) (r : Apart m) (i : ℕ) (g : Worker) (a : Act) (rest : List Act) → Turn m i g a rest → Apart (step_with m i g (a ∷ rest))
+apart_after : (m : Machine) (r : Apart m) (i : ℕ) (g : Worker) (a : Act) (rest : List Act) → Turn m i g a rest
+    → Apart (step_with m i g (a ∷ rest))
 apart_after m r i g a rest t = record {
   separate = λ j k b c ne x y. r.separate j k b c ne (remained m i g a rest t j b x) (remained m i g a rest t k c y);
   read_only = λ j k b c x y. r.read_only j k b c (remained m i g a rest t j b x) (remained m i g a rest t k c y);
@@ -107,7 +109,8 @@ record Keeps (m n : Machine) : Type 0 where
 keeps_all : (m : Machine) → Apart m → Keeps m m
 keeps_all m r = record { apart = r; result = refl; value = λ w u. (u, refl) }
 
-act_keeps : (m : Machine) (r : Apart m) (i : ℕ) (g : Worker) (a : Act) (rest : List Act) → Turn m i g a rest → Keeps m (step_with m i g (a ∷ rest))
+act_keeps : (m : Machine) (r : Apart m) (i : ℕ) (g : Worker) (a : Act) (rest : List Act) → Turn m i g a rest
+    → Keeps m (step_with m i g (a ∷ rest))
 act_keeps m r i g a rest t =
     let mine = turn_remains m i g a rest t in record {
       apart = apart_after m r i g a rest t;
@@ -155,6 +158,7 @@ pub ends_with_result : (m : Machine) (is : List ℕ) → Apart m → IsFinished 
 ends_with_result m is r o = sym (nothing_remains (run m is).words (run m is).workers o) ∙ keeps_result m is r
 
 -- each word of an act stays in range
-pub range_after : (m : Machine) (n : ℕ) (i : ℕ) (g : Worker) (a : Act) (rest : List Act) → slice_get m.workers i ≡ Some g → g.acts ≡ a ∷ rest
+pub range_after : (m : Machine) (n : ℕ) (i : ℕ) (g : Worker) (a : Act) (rest : List Act) → slice_get m.workers i ≡ Some g
+    → g.acts ≡ a ∷ rest
     → ((j : ℕ) (b : Act) → Remains m j b → word b < n) → (j : ℕ) (b : Act) → Remains (step_with m i g (a ∷ rest)) j b → word b < n
 range_after m n i g a rest at is h j b r = h j b (remained m i g a rest record { at_index = at; first = is } j b r)

@@ -24,17 +24,23 @@ not_within first n x lo = grind (arith, nat_tests)
 
 -- a range of one worker, and one of all
 pub none_filled : (first : ℕ) (h : Holding) → IsFilled first 0 h h
-none_filled first h = record { table = refl; share = refl; values = λ x. ap (λ b. cond b (Some (pos x)) (value_in h.own x)) (sym (empty x)) }
+none_filled first h = record {
+  table = refl;
+  share = refl;
+  values = λ x. ap (λ b. cond b (Some (pos x)) (value_in h.own x)) (sym (empty x));
+}
   where
     empty : (x : ℕ) → is_within first 0 x ≡ false
     empty x = grind (arith, nat_tests)
 
 pub owns_next : (first n count : ℕ) (h k : Holding) → IsFilled first n h k → OwnsRange h first count → n < count → Owns k (first + n)
 owns_next first n count h k f own lt =
-    ap number_of (f.values (first + n) ∙ ap (λ b. cond b (Some (pos (first + n))) (value_in h.own (first + n))) (not_within first n (first + n) (omega arith)))
+    let after = not_within first n (first + n) (omega arith) in
+    ap number_of (f.values (first + n) ∙ ap (λ b. cond b (Some (pos (first + n))) (value_in h.own (first + n))) after)
     ∙ own (first + n) (omega arith) (omega arith)
 
-pub one_more_filled : (first n : ℕ) (h k j : Holding) → IsFilled first n h k → j ≡ after_store k (first + n) (pos (first + n)) → IsFilled first (n + 1) h j
+pub one_more_filled : (first n : ℕ) (h k j : Holding) → IsFilled first n h k → j ≡ after_store k (first + n) (pos (first + n))
+    → IsFilled first (n + 1) h j
 one_more_filled first n h k j f e = subst (IsFilled first (n + 1) h) (sym e) record {
   table = f.table;
   share = f.share;
@@ -42,7 +48,8 @@ one_more_filled first n h k j f e = subst (IsFilled first (n + 1) h) (sym e) rec
 }
   where
     go : (x : ℕ) (b : Bool) → eqb (first + n) x ≡ b
-        → cond (eqb (first + n) x) (Some (pos (first + n))) (value_in k.own x) ≡ cond (is_within first (n + 1) x) (Some (pos x)) (value_in h.own x)
+        → cond (eqb (first + n) x) (Some (pos (first + n))) (value_in k.own x)
+        ≡ cond (is_within first (n + 1) x) (Some (pos x)) (value_in h.own x)
     go x true is =
         let same : first + n ≡ x = eqb-true (first + n) x is in
         let inside : is_within first (n + 1) x ≡ true = within first (n + 1) x (omega arith) (omega arith) in
@@ -55,14 +62,16 @@ one_more_filled first n h k j f e = subst (IsFilled first (n + 1) h) (sym e) rec
         ∙ f.values x
         ∙ sym (ap (λ b. cond b (Some (pos x)) (value_in h.own x)) same)
 
-pub handed_owns : (first n m : ℕ) (h k : Holding) → OwnsRange h first m → n ≤ m → k ≡ handed_over (range_with_len first n) h → OwnsRange k first n
+pub handed_owns : (first n m : ℕ) (h k : Holding) → OwnsRange h first m → n ≤ m
+    → k ≡ handed_over (range_with_len first n) h → OwnsRange k first n
 handed_owns first n m h k own le e x lo hi =
     ap (λ (z : Holding). number_of (value_in z.own x)) e
     ∙ ap number_of (value_in_restricted (is_in (range_with_len first n)) h.own x)
     ∙ ap (λ b. number_of (cond b (value_in h.own x) None)) (is_in_range first n x ∙ within first n x lo hi)
     ∙ own x lo (omega arith)
 
-pub kept_owns : (first n m : ℕ) (h k : Holding) → OwnsRange h first (n + m) → k ≡ after_split (range_with_len first n) h → OwnsRange k (first + n) m
+pub kept_owns : (first n m : ℕ) (h k : Holding) → OwnsRange h first (n + m)
+    → k ≡ after_split (range_with_len first n) h → OwnsRange k (first + n) m
 kept_owns first n m h k own e x lo hi =
     ap (λ (z : Holding). number_of (value_in z.own x)) e
     ∙ ap number_of (value_in_restricted (λ y. not (is_in (range_with_len first n) y)) h.own x)
@@ -82,7 +91,8 @@ value_after true b c o u k l p q is apart ek el ep eq =
 value_after false b c o u k l p q is apart ek el ep eq =
     ap₂ first_of (ep ∙ ap (cond b u) ek) (eq ∙ el) ∙ (first_of_none (cond b u o) ∙ sym (ap (λ z. cond z u o) is))
 
-pub both_filled : (first n m : ℕ) (h k l p q e : Holding) → 1 ≤ h.share → k ≡ after_split (range_with_len first n) h → l ≡ handed_over (range_with_len first n) h
+pub both_filled : (first n m : ℕ) (h k l p q e : Holding) → 1 ≤ h.share
+    → k ≡ after_split (range_with_len first n) h → l ≡ handed_over (range_with_len first n) h
     → IsFilled (first + n) m k p → IsFilled first n l q → e ≡ after_join p q → IsFilled first (n + m) h e
 both_filled first n m h k l p q e some_share ik il fp fq ie =
     let ps : p.share ≡ h.share - 1 = fp.share ∙ ap (λ z. z.share) ik in

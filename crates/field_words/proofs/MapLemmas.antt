@@ -9,7 +9,8 @@ abbrev pub first_of : Option ℤ → Option ℤ → Option ℤ
 first_of None b = b
 first_of (Some u) b = Some u
 
-restricted_true : (A B : Option ℤ) (u : ℤ) (c d : Bool) → (c ≡ true → d ≡ true) → A ≡ cond d B None → cond c (Some u) A ≡ cond d (cond c (Some u) B) None
+restricted_true : (A B : Option ℤ) (u : ℤ) (c d : Bool) → (c ≡ true → d ≡ true) → A ≡ cond d B None
+    → cond c (Some u) A ≡ cond d (cond c (Some u) B) None
 restricted_true A B u true true h e = refl
 restricted_true A B u true false h e = absurd (true≢false (sym (h refl)))
 restricted_true A B u false d h e = e
@@ -27,15 +28,19 @@ value_in_restricted f [] x = go (f x)
     go false = refl
 value_in_restricted f (p ∷ ps) x = go (f p.0) refl (value_in_restricted f ps x)
   where
-    go : (b : Bool) → f p.0 ≡ b → value_in (restricted f ps) x ≡ cond (f x) (value_in ps x) None → value_in (cond b (p ∷ restricted f ps) (restricted f ps)) x ≡ cond (f x) (cond (eqb p.0 x) (Some p.1) (value_in ps x)) None
-    go true e h = restricted_true (value_in (restricted f ps) x) (value_in ps x) p.1 (eqb p.0 x) (f x) (λ t. sym (ap f (eqb-true p.0 x t)) ∙ e) h
-    go false e h = restricted_false (value_in (restricted f ps) x) (value_in ps x) p.1 (eqb p.0 x) (f x) (λ t. sym (ap f (eqb-true p.0 x t)) ∙ e) h
+    go : (b : Bool) → f p.0 ≡ b → value_in (restricted f ps) x ≡ cond (f x) (value_in ps x) None
+        → value_in (cond b (p ∷ restricted f ps) (restricted f ps)) x ≡ cond (f x) (cond (eqb p.0 x) (Some p.1) (value_in ps x)) None
+    go true e h =
+        restricted_true (value_in (restricted f ps) x) (value_in ps x) p.1 (eqb p.0 x) (f x) (λ t. sym (ap f (eqb-true p.0 x t)) ∙ e) h
+    go false e h =
+        restricted_false (value_in (restricted f ps) x) (value_in ps x) p.1 (eqb p.0 x) (f x) (λ t. sym (ap f (eqb-true p.0 x t)) ∙ e) h
 
 pub value_in_append : (m k : WordMap) (x : ℕ) → value_in (m ++ k) x ≡ first_of (value_in m x) (value_in k x)
 value_in_append [] k x = refl
 value_in_append (p ∷ ps) k x = go (eqb p.0 x) (value_in_append ps k x)
   where
-    go : (b : Bool) → value_in (ps ++ k) x ≡ first_of (value_in ps x) (value_in k x) → cond b (Some p.1) (value_in (ps ++ k) x) ≡ first_of (cond b (Some p.1) (value_in ps x)) (value_in k x)
+    go : (b : Bool) → value_in (ps ++ k) x ≡ first_of (value_in ps x) (value_in k x)
+        → cond b (Some p.1) (value_in (ps ++ k) x) ≡ first_of (cond b (Some p.1) (value_in ps x)) (value_in k x)
     go true e = refl
     go false e = e
 
@@ -76,7 +81,9 @@ number_of_parts true o = omega arith
 number_of_parts false o = omega arith
 
 pub has_restricted : (f : ℕ → Bool) (m : WordMap) (x : ℕ) → has x (restricted (λ y. not (f y)) m) + has x (restricted f m) ≡ has x m
-has_restricted f m x = ap₂ (λ a b. number_of a + number_of b) (value_in_restricted (λ y. not (f y)) m x) (value_in_restricted f m x) ∙ number_of_parts (f x) (value_in m x)
+has_restricted f m x =
+    ap₂ (λ a b. number_of a + number_of b) (value_in_restricted (λ y. not (f y)) m x) (value_in_restricted f m x)
+    ∙ number_of_parts (f x) (value_in m x)
 
 number_of_either : (a b : Option ℤ) → number_of a + number_of b ≤ 1 → number_of (first_of a b) ≡ number_of a + number_of b
 number_of_either None b h = omega arith

@@ -16,7 +16,9 @@ use Rattle.field_words.proofs.StepLemmas.{owned_or_frozen}
 -- a total that isn't 0 has a part that isn't
 positive_part : (f : View → ℕ) (vs : List View) → 0 < total f vs → (j : ℕ) × (v : View) × (get_elem? vs j ≡ some v) × (0 < f v)
 positive_part f [] h = absurd (omega arith)
-positive_part f (v ∷ vs) h = dite (ℕ_discrete (f v) 0) (λ z. let r = positive_part f vs (omega arith) in (suc r.0, r.1, r.2, r.3)) (λ ne. (0, v, refl, omega arith))
+positive_part f (v ∷ vs) h = dite (ℕ_discrete (f v) 0)
+    (λ z. let r = positive_part f vs (omega arith) in (suc r.0, r.1, r.2, r.3))
+    (λ ne. (0, v, refl, omega arith))
 
 has_at_most : (m : WordMap) (x : ℕ) → has x m ≤ 1
 has_at_most m x = go (value_in m x)
@@ -28,17 +30,24 @@ has_at_most m x = go (value_in m x)
 pub is_word_inside : (n x : ℕ) → 0 < x → x ≤ n → is_word n x ≡ 1
 is_word_inside n x lo hi = grind (arith, nat_tests)
 
-pub frozen_is_present : (n : ℕ) (s : TableState) → IsOwned n s → (j x : ℕ) (v : View) (u : ℤ) → get_elem? s.views j ≡ some v → value_in v.frozen x ≡ Some u → value (slice_index s.words x) ≡ u
+pub frozen_is_present : (n : ℕ) (s : TableState) → IsOwned n s → (j x : ℕ) (v : View) (u : ℤ) → get_elem? s.views j ≡ some v
+    → value_in v.frozen x ≡ Some u → value (slice_index s.words x) ≡ u
 frozen_is_present n s r j x v u here e = dite (ℕ_discrete v.share 0)
     (λ z. let none = ((r.each j v here).spent z).1 in absurd cc)
     (λ ne. r.present x u (ap (λ m. value_in m x) (sym ((r.each j v here).same (omega arith))) ∙ e))
 
-pub owned_is_not_frozen : (n : ℕ) (s : TableState) → IsOwned n s → (i j x : ℕ) (v w : View) → get_elem? s.views i ≡ some v → get_elem? s.views j ≡ some w → has x v.own + has x w.frozen ≤ 1
+pub owned_is_not_frozen : (n : ℕ) (s : TableState) → IsOwned n s → (i j x : ℕ) (v w : View) → get_elem? s.views i ≡ some v
+    → get_elem? s.views j ≡ some w → has x v.own + has x w.frozen ≤ 1
 owned_is_not_frozen n s r i j x v w here at_j = dite (ℕ_discrete w.share 0)
-    (λ z. let none : has x w.frozen ≡ 0 = ap (has x) ((r.each j w at_j).spent z).1 in let most = has_at_most v.own x in omega arith)
-    (λ ne. let same : has x w.frozen ≡ has x r.frozen = ap (has x) ((r.each j w at_j).same (omega arith)) in let b = owned_or_frozen n s r i x v here in omega arith)
+    (λ z.
+    let none : has x w.frozen ≡ 0 = ap (has x) ((r.each j w at_j).spent z).1 in
+    let most = has_at_most v.own x in omega arith)
+    (λ ne.
+    let same : has x w.frozen ≡ has x r.frozen = ap (has x) ((r.each j w at_j).same (omega arith)) in
+    let b = owned_or_frozen n s r i x v here in omega arith)
 
-pub owned_or_frozen_word : (n : ℕ) (s : TableState) → IsOwned n s → (x : ℕ) → 0 < x → x ≤ n → (j : ℕ) × (v : View) × (get_elem? s.views j ≡ some v) × ((has x v.own ≡ 1) ⊎ (has x v.frozen ≡ 1))
+pub owned_or_frozen_word : (n : ℕ) (s : TableState) → IsOwned n s → (x : ℕ) → 0 < x → x ≤ n
+    → (j : ℕ) × (v : View) × (get_elem? s.views j ≡ some v) × ((has x v.own ≡ 1) ⊎ (has x v.frozen ≡ 1))
 owned_or_frozen_word n s r x lo hi = dite (ℕ_discrete (total (λ v. has x v.own) s.views) 0)
     (λ z.
     let one = r.one_place x in

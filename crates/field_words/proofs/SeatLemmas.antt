@@ -1,5 +1,5 @@
 -- What holds of a seat holds after each of its steps.
-use Rattle.std.proofs.Common.{◌≡◌, ℕ, ℤ, ◌+◌, ◌-◌, ◌<◌, ◌≤◌, not, eqb, eqb-true, List, [], ◌++◌, Some, Bool, true, false, cond, refl, sym, ap, ◌∙◌, subst, arith}
+use Rattle.std.proofs.Common.{◌≡◌, ℕ, ℤ, ◌+◌, ◌<◌, ◌≤◌, not, eqb, eqb-true, List, [], ◌++◌, Some, Bool, true, false, cond, refl, sym, ap, ◌∙◌, subst, arith}
 use Rattle.atomic_table.specs.Seated.{TableId}
 use Rattle.field_words.specs.declared.view.View.{View}
 use Rattle.field_words.specs.Maps.{WordMap, AreBelow, value_in, restricted, is_in, is_within, zero_words}

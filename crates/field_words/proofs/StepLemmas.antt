@@ -1,5 +1,5 @@
 -- Each kind of step keeps the rule of ownership.
-use Rattle.std.proofs.Common.{◌≡◌, ◌≢◌, ◌⊎◌, ℕ, zero, suc, ℤ, ◌+◌, ◌-◌, ◌<◌, ◌≤◌, not, eqb, eqb-true, List, [], ◌∷◌, ◌++◌, length, set, get_or, Some, None, Bool, true, false, cond, refl, sym, ap, ◌∙◌, subst, ⊎_elim, arith, length-set, get_or-set_other, get_or-set_same, replicate, pos}
+use Rattle.std.proofs.Common.{◌≡◌, ◌≢◌, ℕ, zero, suc, ℤ, ◌+◌, ◌<◌, ◌≤◌, not, eqb, eqb-true, List, [], ◌∷◌, ◌++◌, length, set, get_or, Some, Bool, true, false, cond, refl, sym, ap, ◌∙◌, subst, ⊎_elim, arith, length-set, get_or-set_other, get_or-set_same, replicate, pos}
 use Rattle.std.specs.Prelude.{slice_index}
 use Rattle.std.proofs.lemmas.Bool.{eqb-false}
 use Rattle.std.proofs.lemmas.List.{length-replicate}
@@ -12,7 +12,7 @@ use Rattle.liszt_base.specs.Reductions.{value}
 use Rattle.field_words.specs.declared.view.View.{View}
 use Rattle.field_words.specs.Maps.{WordMap, value_in, number_of, has, restricted, is_in, is_within, zero_words}
 use Rattle.field_words.specs.Views.{first_view, spent_view, counted_view, stored_view, kept_view, handed_view, joined_view, frozen_view, thawed_view}
-use Rattle.field_words.specs.Ownership.{TableState, total, is_word, IsPresent, ViewFits, IsOwned}
+use Rattle.field_words.specs.Ownership.{TableState, IsPresent, ViewFits, IsOwned}
 use Rattle.field_words.specs.Internal.Plays.{SeatState, LoadsOwn, LoadsFrozen, StoresOwn, Freezes, Thaws}
 use Rattle.field_words.proofs.MapLemmas.{is_word_at_most, is_word_at_most_n, has_zero_words, each_restricted, each_append, each_of_none, has_restricted, has_append, has_value}
 use Rattle.field_words.proofs.SumLemmas.{total_set, total_snoc, total_at, total_two}
@@ -95,8 +95,8 @@ load_frozen_keeps n slots id i me u some_share e s r _ here _ =
 present_elsewhere : (words : List ℕ) (i k : ℕ) (m : WordMap) → has i m ≡ 0 → IsPresent words m → IsPresent (set words i k) m
 present_elsewhere words i k m none_here present x u e =
     let ne : x ≢ i = λ (q : x ≡ i).
-        let one = has_value m x u e in
-        let same : has x m ≡ has i m = ap (λ y. has y m) q in absurd (omega arith) in
+    let one = has_value m x u e in
+    let same : has x m ≡ has i m = ap (λ y. has y m) q in absurd (omega arith) in
     ap value (get_or-set_other words i x k 0 ne) ∙ present x u e
 
 present_after_store : (words : List ℕ) (i k : ℕ) (m : WordMap) → i < length words → IsPresent words m
@@ -254,10 +254,10 @@ freeze_keeps n slots id first count me all s r _ here _ =
       spent = λ z. absurd (omega arith);
     } in
     let places : (x : ℕ) → has x w.own + has x w.frozen ≡ has x v.own + has x r.frozen = λ x.
-        let b = owned_or_frozen n s r id x v here in
-        let p = has_restricted (is_within first count) v.own x in
-        let same_x : has x v.frozen ≡ has x r.frozen = ap (has x) same in
-        let q = has_append (restricted (is_within first count) v.own) v.frozen x (omega arith) in omega arith in (
+    let b = owned_or_frozen n s r id x v here in
+    let p = has_restricted (is_within first count) v.own x in
+    let same_x : has x v.frozen ≡ has x r.frozen = ap (has x) same in
+    let q = has_append (restricted (is_within first count) v.own) v.frozen x (omega arith) in omega arith in (
       w,
       keeps,
       tt,
@@ -280,9 +280,9 @@ thaw_keeps n slots id me all s r _ here _ =
       spent = λ z. absurd (omega arith);
     } in
     let places : (x : ℕ) → has x w.own + has x [] ≡ has x v.own + has x r.frozen = λ x.
-        let b = owned_or_frozen n s r id x v here in
-        let same_x : has x v.frozen ≡ has x r.frozen = ap (has x) same in
-        let q = has_append v.own v.frozen x (omega arith) in omega arith in (
+    let b = owned_or_frozen n s r id x v here in
+    let same_x : has x v.frozen ≡ has x r.frozen = ap (has x) same in
+    let q = has_append v.own v.frozen x (omega arith) in omega arith in (
       w,
       keeps,
       tt,

@@ -1,4 +1,4 @@
-use Rattle.std.proofs.Common.{◌≡◌, sym, ap, ◌∙◌, subst, ◌<◌, arith}
+use Rattle.std.proofs.Common.{◌≡◌, ap, ◌∙◌, arith}
 use Rattle.field_words.proofs.SeatLemmas.{same_table, seat_invariant, seat_frozen}
 use Rattle.field_words.proofs.StepLemmas.{freeze_keeps}
 use Rattle.field_words.proofs.table.FieldTable.freeze_as.Goals as goal
@@ -10,7 +10,7 @@ load-requires g c =
       same,
       omega (arith, c.self.invariant),
       freeze_keeps c.self.inside.table.shared.key c.self.inside.table.shared.table_id.slots c.s.inside.seat.id g.A.Span.first g.A.Span.count
-      c.s.inside.seat.me share,
+          c.s.inside.seat.me share,
     )
 
 pub invariant_of-s : goal.invariant_of-s

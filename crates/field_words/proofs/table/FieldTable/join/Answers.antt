@@ -1,4 +1,4 @@
-use Rattle.std.proofs.Common.{◌≡◌, sym, ap, ◌∙◌, subst, ◌<◌, arith}
+use Rattle.std.proofs.Common.{◌≡◌, sym, ◌∙◌, subst, arith}
 use Rattle.field_words.specs.Holdings.{IsSeat}
 use Rattle.field_words.proofs.SeatLemmas.{same_table, seat_invariant, seat_joined}
 use Rattle.field_words.proofs.StepLemmas.{join_keeps}
@@ -7,14 +7,13 @@ use Rattle.field_words.proofs.table.FieldTable.join.Goals as goal
 pub join_seat-requires : goal.join_seat-requires
 join_seat-requires c =
     let same = same_table c.s.view_is c.requires.table.0 c.self.view_is in
-    let same_too = same_table c.other.view_is c.requires.table.1 c.self.view_is in
-    (
+    let same_too = same_table c.other.view_is c.requires.table.1 c.self.view_is in (
       same,
       same_too,
       c.other.invariant.0,
       omega (arith, c.self.invariant),
       join_keeps c.self.inside.table.shared.key c.s.inside.seat.id c.s.inside.seat.me.0 c.other.inside.seat.id c.other.inside.seat.me.0
-      c.s.invariant.1.share,
+          c.s.invariant.1.share,
     )
 
 pub invariant_of-s : goal.invariant_of-s

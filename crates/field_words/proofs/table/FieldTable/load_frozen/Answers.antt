@@ -1,4 +1,4 @@
-use Rattle.std.proofs.Common.{◌≡◌, sym, ap, ◌∙◌, subst, ◌<◌, Some}
+use Rattle.std.proofs.Common.{◌≡◌, ap, ◌∙◌, subst, ◌<◌, Some}
 use Rattle.field_words.specs.Maps.{value_in}
 use Rattle.field_words.proofs.MapLemmas.{value_of_has}
 use Rattle.field_words.proofs.SeatLemmas.{same_table}
@@ -13,5 +13,5 @@ load-requires c =
       same,
       subst (λ t. c.args.w < t.words) same (c.s.invariant.1.frozen c.args.w held.0 here),
       load_frozen_keeps c.self.inside.table.shared.key c.self.inside.table.shared.table_id.slots c.s.inside.seat.id
-       c.args.w c.s.inside.seat.me held.0 c.s.invariant.1.share here,
+          c.args.w c.s.inside.seat.me held.0 c.s.invariant.1.share here,
     )

@@ -1,4 +1,4 @@
-use Rattle.std.proofs.Common.{◌≡◌, sym, ap, ◌∙◌, subst, ◌<◌, arith, ◌≤◌, [], refl}
+use Rattle.std.proofs.Common.{sym, subst, arith, ◌≤◌, [], refl}
 use Rattle.field_words.proofs.SeatLemmas.{same_table, seat_invariant, seat_kept, seat_handed}
 use Rattle.field_words.proofs.StepLemmas.{split_keeps}
 use Rattle.field_words.proofs.table.FieldTable.split_as.Goals as goal

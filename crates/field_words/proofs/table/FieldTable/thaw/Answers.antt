@@ -1,4 +1,4 @@
-use Rattle.std.proofs.Common.{◌≡◌, sym, ap, ◌∙◌, subst, ◌<◌, arith}
+use Rattle.std.proofs.Common.{◌≡◌, ap, ◌∙◌, arith}
 use Rattle.field_words.proofs.SeatLemmas.{same_table, seat_invariant, seat_thawed}
 use Rattle.field_words.proofs.StepLemmas.{thaw_keeps}
 use Rattle.field_words.proofs.table.FieldTable.thaw.Goals as goal
