@@ -1,12 +1,12 @@
 -- The checked program of a tree, or the tree's first fault. This project's own.
-use Rattle.std.specs.Prelude.{ℕ, ◌+◌, Bool, true, false, Option, Some, None, List, [], ◌∷◌, ◌++◌, length, Result, Ok, Err}
+use Rattle.std.specs.Option.{option_map, option_and_then}
+use Rattle.std.specs.Prelude.{◌≡◌, ◌≤◌, ℕ, ◌+◌, Bool, true, false, Option, Some, None, List, [], ◌∷◌, ◌++◌, length, slice_get, codes, Result, Ok}
 use Rattle.liszt_base.specs.declared.answers.Place.{Place}
 use Rattle.liszt_base.specs.declared.answers.ProgramFault.{ProgramFault}
 use Rattle.liszt_base.specs.declared.answers.ProgramWhat.TheVariants.{NameUnknown, TypeMismatch}
 use Rattle.liszt_base.specs.declared.elements.Kind.{Kind}
 use Rattle.liszt_base.specs.declared.elements.Kind.TheVariants.{Vertex, Cell}
 use Rattle.liszt_tree.specs.Tree.{MainItem, MainField, MainVar, MainAssign, MainIf, MainWhile, MainFor, Print, Main, no_item, item}
-use Rattle.std.specs.Prelude.{codes}
 use Rattle.resolved_code.specs.declared.items.BlockCode.{BlockCode}
 use Rattle.resolved_code.specs.declared.items.ComprehensionCode.{ComprehensionCode}
 use Rattle.resolved_code.specs.declared.items.ItemCode.{ItemCode}
@@ -14,8 +14,10 @@ use Rattle.resolved_code.specs.declared.items.ItemCode.TheVariants as code
 use Rattle.phase_types.specs.declared.info.FieldInfo.{FieldInfo}
 use Rattle.phase_types.specs.declared.resolution.Resolution.{Resolution}
 use Rattle.phase_types.specs.declared.resolution.Resolution.TheVariants as resolution
-use Rattle.phase_types.specs.Environments.{first_declared, has_else_block}
-use Rattle.phase_types.specs.Resolve.{◌>>=◌, fails, Names, resolution_of, new_name, resolved_number, resolved_truth, resolved_comprehension}
+use Rattle.liszt_base.specs.declared.accesses.Mode.{Mode}
+use Rattle.phase_types.specs.Environments.{first_declared, has_else_block, fields_of, scalars_of, scopes_of, comprehensions_of, comprehension_of}
+use Rattle.phase_types.specs.Resolve.{◌>>=◌, fails, Names, resolution_of, new_name, first_access, resolved_number, resolved_truth, resolved_comprehension}
+use Rattle.phase_types.specs.Walk.{Subject, OfField, OfScalar, mode_of, scalar_mode_of}
 
 -- THE NUMBER OF ITEMS of a main program, those in its blocks counted
 abbrev mutual
@@ -175,3 +177,30 @@ checked_program program = do
     comprehensions = whole.1.comprehensions;
     items = whole.0;
   })
+
+-- of a comprehension by its number: its kind, and its mode of a field or scalar, that of the first access
+abbrev pub checked_kind : CheckedProgram → ℕ → Option Kind
+checked_kind checked k = option_map (λ c. c.over) (slice_get checked.comprehensions k)
+
+abbrev pub access_mode : ComprehensionCode → Subject → Option Mode
+access_mode c subject = option_map (λ access. access.mode) (first_access c.accesses subject)
+
+abbrev pub checked_mode : CheckedProgram → ℕ → Subject → Option Mode
+checked_mode checked k subject = option_and_then (λ c. access_mode c subject) (slice_get checked.comprehensions k)
+
+-- THE PARTS of a checked program are those of its tree: its fields, scalars and scopes, and of each comprehension the kind and the
+-- modes of fields and scalars.
+pub record HasPartsOf (program : Main) (checked : CheckedProgram) : Type 0 where
+  pub fields : checked.fields ≡ fields_of program
+  pub scalars : checked.scalars ≡ scalars_of program
+  pub scopes : checked.scopes ≡ scopes_of program
+  pub comprehensions : length checked.comprehensions ≡ length (comprehensions_of program)
+  pub kinds : (k : ℕ) → checked_kind checked k ≡ option_map (λ c. c.over) (comprehension_of program k)
+  pub modes : (k field : ℕ) → checked_mode checked k (OfField field) ≡ mode_of program k field
+  pub scalar_modes : (k scalar : ℕ) → checked_mode checked k (OfScalar scalar) ≡ scalar_mode_of program k scalar
+
+-- the numbers of declared fields, scalars and comprehensions are within a limit
+pub record IsWithin (limit : ℕ) (checked : CheckedProgram) : Type 0 where
+  pub fields : length checked.fields ≤ limit
+  pub scalars : length checked.scalars ≤ limit
+  pub comprehensions : length checked.comprehensions ≤ limit

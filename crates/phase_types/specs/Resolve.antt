@@ -1,5 +1,5 @@
 -- Resolved programs: the code of each part of a program, or its first fault, in the order of the walk. This project's own.
-use Rattle.std.specs.Prelude.{ℕ, ◌+◌, ◌&&◌, Bool, true, false, if◌then◌else◌, Option, Some, None, is_some, List, [], ◌∷◌, ◌++◌, length, Result, Ok, Err}
+use Rattle.std.specs.Prelude.{ℕ, ◌+◌, ◌&&◌, Bool, true, false, if◌then◌else◌, Option, Some, None, List, [], ◌∷◌, ◌++◌, length, Result, Ok, Err}
 use Rattle.std.specs.List.{find}
 use Rattle.std.specs.Str.{bytes_eq}
 use Rattle.liszt_base.specs.Kinds.{is_kind, has_set, kind_of}
@@ -15,7 +15,7 @@ use Rattle.liszt_base.specs.declared.elements.SetName.{SetName}
 use Rattle.liszt_tree.specs.declared.tree.Fun.{Fun}
 use Rattle.liszt_tree.specs.declared.tree.Fun.TheVariants.{Head, Tail, Inside, Outside, Flip, Valid, Id}
 use Rattle.liszt_tree.specs.declared.tree.How.{How}
-use Rattle.liszt_tree.specs.declared.tree.How.TheVariants.{Set, Fold, Less}
+use Rattle.liszt_tree.specs.declared.tree.How.TheVariants.{Set}
 use Rattle.liszt_tree.specs.declared.tree.Rel.{Rel}
 use Rattle.liszt_tree.specs.declared.tree.Rel.TheVariants.{Same}
 use Rattle.liszt_tree.specs.declared.tree.Sign.{Sign}
