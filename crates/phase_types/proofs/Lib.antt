@@ -1,6 +1,11 @@
 pub mod BindingLemmas
+pub mod BodyLemmas
+pub mod CheckedLemmas
+pub mod ConflictLemmas
 pub mod FaultLemmas
 pub mod ModeLemmas
 pub mod PartLemmas
+pub mod ResolveLemmas
 pub mod StepLemmas
 pub mod TypeLemmas
+pub mod WalkLemmas

@@ -5,5 +5,6 @@
 mod cases;
 mod info;
 pub mod laws;
+mod resolution;
 
 pub use info::FieldInfo;
