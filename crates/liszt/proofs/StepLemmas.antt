@@ -1,5 +1,5 @@
 -- The steps that read the inputs, joined.
-use Rattle.std.proofs.Common.{◌≡◌, ℕ, ◌≤◌, inl, inr, List, length, Option, Some, None, MatchOption, MatchResult, Result, Ok, Err, refl, sym, ap, subst, ◌∙◌, arith, ℤ, pos, ◌+ℤ◌, ◌≤ℤ◌, ◌⊎◌}
+use Rattle.std.proofs.Common.{◌≡◌, ℕ, ◌≤◌, inl, inr, List, length, Option, Some, None, MatchOption, MatchResult, Result, Ok, Err, refl, sym, ap, subst, ◌∙◌, arith, length-map, ℤ, pos, ◌+ℤ◌, ◌≤ℤ◌, ◌⊎◌}
 use Rattle.std.specs.Prelude.{IfOk, FitsSigned}
 use Rattle.std.proofs.lemmas.Int.{ints, to_z-of_z}
 use mir.Syntax.{w64}
@@ -28,7 +28,7 @@ use Rattle.liszt.specs.Answers.{outside, IsLost, Answers, Wrote, HasCauses, HasS
 use Rattle.liszt.specs.Internal.Steps.{HasStepCause, StepGives, MakesJob, Prepares, ReadsProgram, job_text}
 use Rattle.liszt_lexer.specs.Lexed.{LexedText, lexed_text}
 use Rattle.liszt_lexer.proofs.LexedTextLemmas.{lexed_parts}
-use Rattle.liszt_parser.specs.Grammar.{lexemes}
+use Rattle.liszt_parser.specs.Grammar.{lexeme, lexemes}
 use Rattle.liszt_parser.specs.ParseFault.{IsParseFault}
 use Rattle.liszt_parser.specs.ParserAnswers.{ParsesTo}
 use Rattle.liszt_tree.specs.declared.tree.Program.{Program as Tree}
@@ -36,6 +36,14 @@ use Rattle.liszt_base.specs.declared.answers.ProgramFault.{ProgramFault}
 use Rattle.liszt_base.specs.declared.answers.ProgramWhat.{ProgramWhat}
 use Rattle.liszt_base.specs.declared.answers.ProgramWhat.TheVariants.{BadByte, LongNumber, LongName, Big, Syntax, Deep, NameUnknown, NameTwice, TypeMismatch, PhaseConflict, ScalarWrite, BuiltinWrite}
 use Rattle.phase_types.specs.Walk.{check_fault}
+use Rattle.liszt_base.specs.Limits.{token_limit}
+use Rattle.liszt_lexer.specs.Lexer.{tokens_of, pieces, findings_after}
+use Rattle.liszt_lexer.specs.declared.token.Token.{Token}
+use Rattle.liszt_lexer.proofs.FindingLemmas.{few_with_limit}
+use Rattle.liszt_parser.proofs.FewNodes.{nodes_within}
+use Rattle.liszt_tree.specs.Tree.{program_tree}
+use Rattle.phase_types.specs.Checked.{item_count}
+use Rattle.phase_types.proofs.CheckedLemmas.{items_are_nodes}
 
 -- The program of a text, from its tokens
 pub program_read : (text : List ℕ) (lexed : LexedText) (result : Result Tree (Refused ProgramFault)) → lexed_text text ≡ Ok lexed
@@ -45,6 +53,21 @@ program_read text lexed (Err (Fault fault)) is parsed =
     let p = lexed_parts text lexed is in
     inr (lexed.tokens, p.0, subst (λ e. IsParseFault (lexemes text lexed.tokens) e (Some fault)) p.1 parsed)
 program_read text lexed (Err OutOfMemory) is parsed = tt
+
+-- A program that is read has at most as many items as tokens.
+few_tokens : (text : List ℕ) (tokens : List Token) → tokens_of text ≡ Ok tokens → length tokens ≤ token_limit
+few_tokens text tokens is =
+    let le : 0 ≤ token_limit = omega arith in
+    omega (arith, few_with_limit 0 (findings_after [] (pieces text)) tokens le is)
+
+pub few_items : (text : List ℕ) (result : Result Tree (Refused ProgramFault)) → ReadsProgram text result
+    → IfOk result (λ program. item_count (program_tree program) ≤ token_limit)
+few_items text (Ok program) read =
+    let tokens = few_tokens text read.0 read.1 in
+    let nodes = nodes_within (lexemes text read.0) (program_tree program) read.2 in
+    let long : length (lexemes text read.0) ≡ length read.0 = length-map read.0 (lexeme text) in
+    omega (arith, tokens, nodes, items_are_nodes (program_tree program), long)
+few_items text (Err refused) read = tt
 
 -- From the bytes of an input to their result
 
