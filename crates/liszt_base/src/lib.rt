@@ -28,7 +28,7 @@ pub use limits::{
     TURN_LIMIT,
 };
 pub use mesh::{CellList, Point, PointList, PointTable, RawCell, RawMesh};
-pub use plain_list::{ByteList, PlainList};
+pub use plain_list::{ByteList, NumbersList, PlainList};
 pub use plain_lists::PlainLists;
 pub use reductions::{fold_op, identity, value_of, word_of};
 pub use word_list::WordList;

@@ -1,4 +1,4 @@
-ghost use Rattle.std.specs.Prelude.{◌≡◌, [], ◌∷◌, ◌++◌, OnOk, OnErr};
+ghost use Rattle.std.specs.Prelude.{◌≡◌, ◌<◌, [], ◌∷◌, ◌++◌, OnOk, OnErr, length, set};
 
 use crate::answers::NoMemory;
 use std::alloc::Global;
@@ -50,6 +50,16 @@ impl<T> PlainList<T> {
         Ok(())
     }
 
+    /// Puts an item in the place of the one at `index`, from 0.
+    pub fn set(&mut self, index: usize, item: T)
+    where
+        T: Drop,
+        requires { index < length self.old }
+        ensures { self.new ≡ set self.old index item }
+    {
+        self.items[index] = item;
+    }
+
     /// The items, in their order.
     pub fn as_slice(&self) -> &[T]
         ensures { result.now ≡ self.now }
@@ -60,3 +70,6 @@ impl<T> PlainList<T> {
 
 /// A list of bytes.
 pub type ByteList = PlainList<u8>;
+
+/// A list of signed numbers.
+pub type NumbersList = PlainList<i64>;

@@ -1,0 +1,4 @@
+pub mod ActLemmas
+pub mod StepLemmas
+pub mod TurnOrderLemmas
+pub mod TestLemmas

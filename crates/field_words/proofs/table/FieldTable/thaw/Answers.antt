@@ -1,0 +1,18 @@
+use Rattle.std.proofs.Common.{◌≡◌, ap, ◌∙◌, arith}
+use Rattle.field_words.proofs.SeatLemmas.{same_table, seat_invariant, seat_thawed}
+use Rattle.field_words.proofs.StepLemmas.{thaw_keeps}
+use Rattle.field_words.proofs.table.FieldTable.thaw.Goals as goal
+
+pub load-requires : goal.load-requires
+load-requires c =
+    let same = same_table c.s.view_is c.requires.table c.self.view_is in
+    let share : c.s.inside.seat.me.0.share ≡ 65 = ap (λ h. h.share) c.s.view_is ∙ c.requires.share in (
+      same,
+      omega (arith, c.self.invariant),
+      thaw_keeps c.self.inside.table.shared.key c.self.inside.table.shared.table_id.slots c.s.inside.seat.id c.s.inside.seat.me share,
+    )
+
+pub invariant_of-s : goal.invariant_of-s
+invariant_of-s c =
+    seat_invariant c.s.inside.seat.table_id c.load.new.seat.table_id c.load.new.seat.me _ _ c.load.ensures.0 c.load.ensures.2 c.s.invariant.0
+    (seat_thawed c.s.inside.seat.table_id.words c.s.inside.seat.me.0 c.s.invariant.1)
