@@ -4,7 +4,7 @@ use Rattle.std.specs.Prelude.{slice_get}
 use Rattle.std.specs.declared.option.Option.{Option}
 use Rattle.batch_core.specs.declared.acts.Act.{Act}
 use Rattle.batch_core.specs.declared.acts.Act.TheVariants.{Read, Load, Fold}
-use Rattle.batch_core.specs.Machine.{Worker, Machine, value_at, word, words_after, register_after, step_with, step_of, step, run, finished, all_finished, sequential_result, Member, Remains, is_read, FoldsAreLoaded, Apart, Reads, AreFinished, IsFinished}
+use Rattle.batch_core.specs.Machine.{Worker, Machine, value_at, word, words_after, register_after, step_with, step_of, step, run, words_when_finished, words_when_all_finished, sequential_result, Member, Remains, is_read, FoldsAreLoaded, Apart, Reads, AreFinished, IsFinished}
 use Rattle.batch_core.proofs.ActLemmas.{AreFree, list_comm, register_after_list, value_kept}
 
 -- a worker after its first act
@@ -15,15 +15,15 @@ after ws g a rest = record { register = register_after ws g.register a; acts = r
 result_after : (ws : List ℤ) (hs : List Worker) (i : ℕ) (g : Worker) (a : Act) (rest : List Act) → slice_get hs i ≡ Some g
     → g.acts ≡ a ∷ rest
     → ((j : ℕ) (h : Worker) (b : Act) → i ≢ j → slice_get hs j ≡ Some h → Member b h.acts → AreFree a b)
-    → all_finished (words_after ws g.register a) (set hs i (after ws g a rest)) ≡ all_finished ws hs
+    → words_when_all_finished (words_after ws g.register a) (set hs i (after ws g a rest)) ≡ words_when_all_finished ws hs
 result_after ws [] i g a rest at is free = absurd cc
 result_after ws (h ∷ hs) zero g a rest at is free =
     let same : h ≡ g = cc in
-    sym (ap (λ (z : Worker). all_finished (finished ws z.register z.acts) hs) same ∙ ap (λ (l : List Act). all_finished (finished ws g.register l) hs) is)
+    sym (ap (λ (z : Worker). words_when_all_finished (words_when_finished ws z.register z.acts) hs) same ∙ ap (λ (l : List Act). words_when_all_finished (words_when_finished ws g.register l) hs) is)
 result_after ws (h ∷ hs) (suc i) g a rest at is free =
     let first : (b : Act) → Member b h.acts → AreFree a b = λ b m. free 0 h b (λ e. omega arith) refl m in
-    let ws' = finished ws h.register h.acts in
-    ap₂ (λ vs p. all_finished vs (set hs i (record { register = p; acts = rest })))
+    let ws' = words_when_finished ws h.register h.acts in
+    ap₂ (λ vs p. words_when_all_finished vs (set hs i (record { register = p; acts = rest })))
     (list_comm ws g.register h.register a h.acts first) (sym (register_after_list ws g.register h.register a h.acts first))
     ∙ result_after ws' hs i g a rest at is (λ j k b ne at_j m. free (suc j) k b (λ e. ne (omega arith)) at_j m)
 
@@ -141,9 +141,9 @@ run_keeps m (i ∷ is) r =
       value = λ w u. let x = one.value w u in let y = more.value w x.0 in (y.0, y.1 ∙ x.1);
     }
 
-nothing_remains : (ws : List ℤ) (hs : List Worker) → AreFinished hs → all_finished ws hs ≡ ws
+nothing_remains : (ws : List ℤ) (hs : List Worker) → AreFinished hs → words_when_all_finished ws hs ≡ ws
 nothing_remains ws [] e = refl
-nothing_remains ws (h ∷ hs) e = ap (λ (l : List Act). all_finished (finished ws h.register l) hs) e.0 ∙ nothing_remains ws hs e.1
+nothing_remains ws (h ∷ hs) e = ap (λ (l : List Act). words_when_all_finished (words_when_finished ws h.register l) hs) e.0 ∙ nothing_remains ws hs e.1
 
 pub stays_apart : (m : Machine) (is : List ℕ) → Apart m → Apart (run m is)
 stays_apart m is r = (run_keeps m is r).apart

@@ -82,17 +82,17 @@ abbrev pub answer : Machine → ℕ → Stepped
 answer m i = answer_of (slice_get m.workers i)
 
 -- the words after one worker alone has finished its acts
-abbrev pub finished : List ℤ → ℤ → List Act → List ℤ
-finished words register [] = words
-finished words register (a ∷ acts) = finished (words_after words register a) (register_after words register a) acts
+abbrev pub words_when_finished : List ℤ → ℤ → List Act → List ℤ
+words_when_finished words register [] = words
+words_when_finished words register (a ∷ acts) = words_when_finished (words_after words register a) (register_after words register a) acts
 
 -- the words after the first worker alone has finished, then the second, and so on
-abbrev pub all_finished : List ℤ → List Worker → List ℤ
-all_finished words [] = words
-all_finished words (worker ∷ workers) = all_finished (finished words worker.register worker.acts) workers
+abbrev pub words_when_all_finished : List ℤ → List Worker → List ℤ
+words_when_all_finished words [] = words
+words_when_all_finished words (worker ∷ workers) = words_when_all_finished (words_when_finished words worker.register worker.acts) workers
 
 abbrev pub sequential_result : Machine → List ℤ
-sequential_result m = all_finished m.words m.workers
+sequential_result m = words_when_all_finished m.words m.workers
 
 -- no act remains
 abbrev pub AreFinished : List Worker → Type 0

@@ -10,15 +10,15 @@ use Rattle.atomic_table.specs.Table.{step, keeps, stepped, opening, Allows, Spli
 use Rattle.atomic_table.proofs.Lists.{at_set, at_snoc, set_else}
 use Rattle.liszt_base.specs.Reductions.{value}
 use Rattle.field_words.specs.declared.view.View.{View}
-use Rattle.field_words.specs.Maps.{WordMap, value_in, number_of, has, restricted, is_in, is_within, zero_words}
-use Rattle.field_words.specs.Views.{first_view, spent_view, counted_view, stored_view, kept_view, handed_view, joined_view, frozen_view, thawed_view}
+use Rattle.field_words.specs.Maps.{WordMap, value_in, option_count, occurrences, restriction, is_in, is_within, zero_words}
+use Rattle.field_words.specs.Views.{full_share, first_view, spent_view, counted_view, stored_view, kept_view, handed_view, joined_view, frozen_view, thawed_view}
 use Rattle.field_words.specs.Ownership.{TableState, IsPresent, ViewFits, IsOwned}
 use Rattle.field_words.specs.Internal.Plays.{SeatState, LoadsOwn, LoadsFrozen, StoresOwn, Freezes, Thaws}
-use Rattle.field_words.proofs.MapLemmas.{is_word_at_most, is_word_at_most_n, has_zero_words, each_restricted, each_append, each_of_none, has_restricted, has_append, has_value}
+use Rattle.field_words.proofs.MapLemmas.{occurrences_in_table_at_most, word_is_at_most, occurrences_in_zero_words, each_restriction, each_append, each_of_none, occurrences_in_restriction, occurrences_in_append, occurrences_of_value}
 use Rattle.field_words.proofs.SumLemmas.{total_set, total_snoc, total_at, total_two}
 
-present_restricted : (words : List ℕ) (f : ℕ → Bool) (m : WordMap) → IsPresent words m → IsPresent words (restricted f m)
-present_restricted words f m h = each_restricted (λ x u. value (slice_index words x) ≡ u) f m h
+present_restriction : (words : List ℕ) (f : ℕ → Bool) (m : WordMap) → IsPresent words m → IsPresent words (restriction f m)
+present_restriction words f m h = each_restriction (λ x u. value (slice_index words x) ≡ u) f m h
 
 present_append : (words : List ℕ) (m k : WordMap) → IsPresent words m → IsPresent words k → IsPresent words (m ++ k)
 present_append words m k hm hk = each_append (λ x u. value (slice_index words x) ≡ u) m k hm hk
@@ -37,22 +37,22 @@ fits_after_set words frozen vs id w mine others j u e = ⊎_elim
 
 -- a word of one view is in no other, and is not frozen
 pub owned_once : (n : ℕ) (s : TableState) (r : IsOwned n s) (id j x : ℕ) (v u : View) → j ≢ id → get_elem? s.views id ≡ some v
-    → get_elem? s.views j ≡ some u → has x v.own + has x u.own ≤ 1
+    → get_elem? s.views j ≡ some u → occurrences x v.own + occurrences x u.own ≤ 1
 owned_once n s r id j x v u ne here at_j =
-    let two = total_two (λ t. has x t.own) s.views id j v u (λ e. ne (sym e)) here at_j in
+    let two = total_two (λ t. occurrences x t.own) s.views id j v u (λ e. ne (sym e)) here at_j in
     let one = r.one_place x in
-    let most = is_word_at_most n x in omega arith
+    let most = occurrences_in_table_at_most n x in omega arith
 
 pub owned_or_frozen : (n : ℕ) (s : TableState) (r : IsOwned n s) (id x : ℕ) (v : View) → get_elem? s.views id ≡ some v
-    → has x v.own + has x r.frozen ≤ 1
+    → occurrences x v.own + occurrences x r.frozen ≤ 1
 owned_or_frozen n s r id x v here =
-    let part = total_at (λ t. has x t.own) s.views id v here in
+    let part = total_at (λ t. occurrences x t.own) s.views id v here in
     let one = r.one_place x in
-    let most = is_word_at_most n x in omega arith
+    let most = occurrences_in_table_at_most n x in omega arith
 
 -- One view changes, and no word. Own and frozen words together stay the same.
 owned_after : (n i id : ℕ) (s : TableState) (r : IsOwned n s) (v w : View) (c : List (ℕ × Unit {0})) (frozen : WordMap)
-    → get_elem? s.views id ≡ some v → w.share ≡ v.share → ((x : ℕ) → has x w.own + has x frozen ≡ has x v.own + has x r.frozen)
+    → get_elem? s.views id ≡ some v → w.share ≡ v.share → ((x : ℕ) → occurrences x w.own + occurrences x frozen ≡ occurrences x v.own + occurrences x r.frozen)
     → IsPresent s.words frozen → ViewFits s.words frozen w
     → ((j : ℕ) (u : View) → j ≢ id → get_elem? s.views j ≡ some u → ViewFits s.words frozen u)
     → IsOwned n (stepped s i (slice_index s.words i) id c w keeps)
@@ -63,7 +63,7 @@ owned_after n i id s r v w c frozen here share places present mine others =
       length_is = r.length_is;
       shares = let t = total_set (λ u. u.share) s.views id v w here in let all = r.shares in omega arith;
       one_place = λ x.
-          let t = total_set (λ u. has x u.own) s.views id v w here in
+          let t = total_set (λ u. occurrences x u.own) s.views id v w here in
           let one = r.one_place x in
           let p = places x in omega arith;
       present = present;
@@ -92,11 +92,11 @@ load_frozen_keeps n slots id i me u some_share e s r _ here _ =
     (counted_view me.0, keeps, tt, owned_after_load n i id s r me here, (refl, e ∙ ap Some (sym now)))
 
 -- a store, for a map without the word and for one with it
-present_elsewhere : (words : List ℕ) (i k : ℕ) (m : WordMap) → has i m ≡ 0 → IsPresent words m → IsPresent (set words i k) m
+present_elsewhere : (words : List ℕ) (i k : ℕ) (m : WordMap) → occurrences i m ≡ 0 → IsPresent words m → IsPresent (set words i k) m
 present_elsewhere words i k m none_here present x u e =
     let ne : x ≢ i = λ (q : x ≡ i).
-    let one = has_value m x u e in
-    let same : has x m ≡ has i m = ap (λ y. has y m) q in absurd (omega arith) in
+    let one = occurrences_of_value m x u e in
+    let same : occurrences x m ≡ occurrences i m = ap (λ y. occurrences y m) q in absurd (omega arith) in
     ap value (get_or-set_other words i x k 0 ne) ∙ present x u e
 
 present_after_store : (words : List ℕ) (i k : ℕ) (m : WordMap) → i < length words → IsPresent words m
@@ -109,14 +109,14 @@ present_after_store words i k m inside present x u e = go (eqb i x) refl e
         ap (λ y. value (slice_index (set words i k) y)) (sym same) ∙ (ap value (get_or-set_same words i k 0 inside) ∙ cc)
     go false is h = ap value (get_or-set_other words i x k 0 (λ q. eqb-false i x is (sym q))) ∙ present x u h
 
-has_after_store : (m : WordMap) (i x : ℕ) (u w : ℤ) → value_in m i ≡ Some u → has x ((i, w) ∷ m) ≡ has x m
-has_after_store m i x u w e = go (eqb i x) refl
+occurrences_after_store : (m : WordMap) (i x : ℕ) (u w : ℤ) → value_in m i ≡ Some u → occurrences x ((i, w) ∷ m) ≡ occurrences x m
+occurrences_after_store m i x u w e = go (eqb i x) refl
   where
-    go : (b : Bool) → eqb i x ≡ b → has x ((i, w) ∷ m) ≡ has x m
+    go : (b : Bool) → eqb i x ≡ b → occurrences x ((i, w) ∷ m) ≡ occurrences x m
     go true is =
         let here = subst (λ y. value_in m y ≡ Some u) (eqb-true i x is) e in
-        ap (λ b. number_of (cond b (Some w) (value_in m x))) is ∙ sym (has_value m x u here)
-    go false is = ap (λ b. number_of (cond b (Some w) (value_in m x))) is
+        ap (λ b. option_count (cond b (Some w) (value_in m x))) is ∙ sym (occurrences_of_value m x u here)
+    go false is = ap (λ b. option_count (cond b (Some w) (value_in m x))) is
 
 pub store_own_keeps : (n slots id i k : ℕ) (me : SeatState) (u : ℤ) → value_in me.0.own i ≡ Some u
     → Allows (IsOwned n) slots id me i (λ _. k) (λ _. StoresOwn (step slots i k 0 none) me k)
@@ -124,12 +124,12 @@ store_own_keeps n slots id i k me u e s r _ here _ =
     let v = me.0 in
     let w = stored_view v i (value k) in
     let f = r.each id v here in
-    let mine = has_value v.own i u e in
-    let part = total_at (λ t. has i t.own) s.views id v here in
+    let mine = occurrences_of_value v.own i u e in
+    let part = total_at (λ t. occurrences i t.own) s.views id v here in
     let one = r.one_place i in
-    let inside : i ≤ n = is_word_at_most_n n i (omega arith) in
+    let inside : i ≤ n = word_is_at_most n i (omega arith) in
     let wide = r.length_is in
-    let apart : has i r.frozen ≡ 0 = let b = owned_or_frozen n s r id i v here in omega arith in (
+    let apart : occurrences i r.frozen ≡ 0 = let b = owned_or_frozen n s r id i v here in omega arith in (
       w,
       keeps,
       tt,
@@ -138,9 +138,9 @@ store_own_keeps n slots id i k me u e s r _ here _ =
         length_is = length-set s.words i k ∙ wide;
         shares = let t = total_set (λ u. u.share) s.views id v w here in let all = r.shares in omega arith;
         one_place = λ x.
-            let t = total_set (λ u. has x u.own) s.views id v w here in
+            let t = total_set (λ u. occurrences x u.own) s.views id v w here in
             let o = r.one_place x in
-            let p = has_after_store v.own i x u (value k) e in omega arith;
+            let p = occurrences_after_store v.own i x u (value k) e in omega arith;
         present = present_elsewhere s.words i k r.frozen apart r.present;
         each = fits_after_set (set s.words i k) r.frozen s.views id w
             record {
@@ -167,12 +167,12 @@ split_keeps n id v ws enough s r here =
     let now = set s.views id a in
     let same = f.same (omega arith) in
     let fits_a : ViewFits s.words r.frozen a = record {
-      own = present_restricted s.words (λ x. not (is_in ws x)) v.own f.own;
+      own = present_restriction s.words (λ x. not (is_in ws x)) v.own f.own;
       same = λ _. same;
       spent = λ z. absurd (omega arith);
     } in
     let fits_b : ViewFits s.words r.frozen b = record {
-      own = present_restricted s.words (is_in ws) v.own f.own;
+      own = present_restriction s.words (is_in ws) v.own f.own;
       same = λ _. same;
       spent = λ z. absurd (omega arith);
     } in
@@ -184,10 +184,10 @@ split_keeps n id v ws enough s r here =
           let p = total_snoc (λ u. u.share) now b in
           let all = r.shares in omega arith;
       one_place = λ x.
-          let t = total_set (λ u. has x u.own) s.views id v a here in
-          let p = total_snoc (λ u. has x u.own) now b in
+          let t = total_set (λ u. occurrences x u.own) s.views id v a here in
+          let p = total_snoc (λ u. occurrences x u.own) now b in
           let o = r.one_place x in
-          let q = has_restricted (is_in ws) v.own x in omega arith;
+          let q = occurrences_in_restriction (is_in ws) v.own x in omega arith;
       present = r.present;
       each = λ j u e. ⊎_elim
           (fits_after_set s.words r.frozen s.views id a fits_a (λ i t _ at_i. r.each i t at_i) j u)
@@ -220,17 +220,17 @@ join_keeps n id v other w some_share s r here apart at_other =
           let p = total_set (λ u. u.share) now other w spent_view at_other in
           let all = r.shares in omega arith;
       one_place = λ x.
-          let t = total_set (λ u. has x u.own) s.views id v both here in
-          let p = total_set (λ u. has x u.own) now other w spent_view at_other in
+          let t = total_set (λ u. occurrences x u.own) s.views id v both here in
+          let p = total_set (λ u. occurrences x u.own) now other w spent_view at_other in
           let o = r.one_place x in
-          let q = has_append v.own w.own x (owned_once n s r id other x v w apart here was) in omega arith;
+          let q = occurrences_in_append v.own w.own x (owned_once n s r id other x v w apart here was) in omega arith;
       present = r.present;
       each = fits_after_set s.words r.frozen now other spent_view fits_spent
           (λ j u _ e. fits_after_set s.words r.frozen s.views id both fits_both (λ i t _ at_i. r.each i t at_i) j u e);
     }
 
 -- with the full share, every other view is spent
-others_fit : (n id : ℕ) (s : TableState) (r : IsOwned n s) (v : View) → v.share ≡ 65 → get_elem? s.views id ≡ some v
+others_fit : (n id : ℕ) (s : TableState) (r : IsOwned n s) (v : View) → v.share ≡ full_share → get_elem? s.views id ≡ some v
     → (frozen : WordMap) (j : ℕ) (u : View) → j ≢ id → get_elem? s.views j ≡ some u → ViewFits s.words frozen u
 others_fit n id s r v all here frozen j u ne e =
     let two = total_two (λ t. t.share) s.views id j v u (λ q. ne (sym q)) here e in
@@ -239,7 +239,7 @@ others_fit n id s r v all here frozen j u ne e =
     let f = r.each j u e in
     record { own = f.own; same = λ z. absurd (omega arith); spent = f.spent }
 
-pub freeze_keeps : (n slots id first count : ℕ) (me : SeatState) → me.0.share ≡ 65
+pub freeze_keeps : (n slots id first count : ℕ) (me : SeatState) → me.0.share ≡ full_share
     → Allows (IsOwned n) slots id me 0 (λ k. k) (Freezes first count (step slots 0 0 0 none) me)
 freeze_keeps n slots id first count me all s r _ here _ =
     let v = me.0 in
@@ -247,26 +247,26 @@ freeze_keeps n slots id first count me all s r _ here _ =
     let w = frozen_view first count v in
     let same : v.frozen ≡ r.frozen = f.same (omega arith) in
     let known : IsPresent s.words v.frozen = subst (IsPresent s.words) (sym same) r.present in
-    let moved = present_restricted s.words (is_within first count) v.own f.own in
+    let moved = present_restriction s.words (is_within first count) v.own f.own in
     let fits : ViewFits s.words w.frozen w = record {
-      own = present_restricted s.words (λ x. not (is_within first count x)) v.own f.own;
+      own = present_restriction s.words (λ x. not (is_within first count x)) v.own f.own;
       same = λ _. refl;
       spent = λ z. absurd (omega arith);
     } in
-    let places : (x : ℕ) → has x w.own + has x w.frozen ≡ has x v.own + has x r.frozen = λ x.
+    let places : (x : ℕ) → occurrences x w.own + occurrences x w.frozen ≡ occurrences x v.own + occurrences x r.frozen = λ x.
     let b = owned_or_frozen n s r id x v here in
-    let p = has_restricted (is_within first count) v.own x in
-    let same_x : has x v.frozen ≡ has x r.frozen = ap (has x) same in
-    let q = has_append (restricted (is_within first count) v.own) v.frozen x (omega arith) in omega arith in (
+    let p = occurrences_in_restriction (is_within first count) v.own x in
+    let same_x : occurrences x v.frozen ≡ occurrences x r.frozen = ap (occurrences x) same in
+    let q = occurrences_in_append (restriction (is_within first count) v.own) v.frozen x (omega arith) in omega arith in (
       w,
       keeps,
       tt,
       owned_after n 0 id s r v w me.1 w.frozen here refl places
-          (present_append s.words (restricted (is_within first count) v.own) v.frozen moved known) fits (others_fit n id s r v all here w.frozen),
+          (present_append s.words (restriction (is_within first count) v.own) v.frozen moved known) fits (others_fit n id s r v all here w.frozen),
       refl,
     )
 
-pub thaw_keeps : (n slots id : ℕ) (me : SeatState) → me.0.share ≡ 65
+pub thaw_keeps : (n slots id : ℕ) (me : SeatState) → me.0.share ≡ full_share
     → Allows (IsOwned n) slots id me 0 (λ k. k) (Thaws (step slots 0 0 0 none) me)
 thaw_keeps n slots id me all s r _ here _ =
     let v = me.0 in
@@ -279,10 +279,10 @@ thaw_keeps n slots id me all s r _ here _ =
       same = λ _. refl;
       spent = λ z. absurd (omega arith);
     } in
-    let places : (x : ℕ) → has x w.own + has x [] ≡ has x v.own + has x r.frozen = λ x.
+    let places : (x : ℕ) → occurrences x w.own + occurrences x [] ≡ occurrences x v.own + occurrences x r.frozen = λ x.
     let b = owned_or_frozen n s r id x v here in
-    let same_x : has x v.frozen ≡ has x r.frozen = ap (has x) same in
-    let q = has_append v.own v.frozen x (omega arith) in omega arith in (
+    let same_x : occurrences x v.frozen ≡ occurrences x r.frozen = ap (occurrences x) same in
+    let q = occurrences_in_append v.own v.frozen x (omega arith) in omega arith in (
       w,
       keeps,
       tt,
@@ -313,7 +313,7 @@ first_state_owned n = record {
   frozen = [];
   length_is = length-replicate (n + 1) 0;
   shares = refl;
-  one_place = λ x. let z = has_zero_words n x in omega arith;
+  one_place = λ x. let z = occurrences_in_zero_words n x in omega arith;
   present = present_none (replicate (n + 1) 0);
   each = one;
 }

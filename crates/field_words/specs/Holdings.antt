@@ -2,7 +2,7 @@
 use Rattle.std.specs.Prelude.{◌≡◌, ℕ, ◌+◌, ◌<◌, ◌≤◌, ℤ, List}
 use Rattle.atomic_table.specs.Seated.{TableId}
 use Rattle.field_words.specs.declared.view.View.{View}
-use Rattle.field_words.specs.Maps.{WordMap, AreBelow, has}
+use Rattle.field_words.specs.Maps.{WordMap, AreBelow, occurrences}
 use Rattle.field_words.specs.Views.{first_view, counted_view, stored_view, kept_view, handed_view, joined_view, frozen_view, thawed_view}
 
 -- the table of a seat, its own and its frozen words with their values, its share, and the number of its steps
@@ -21,10 +21,10 @@ view_of h = record { own = h.own; frozen = h.frozen; share = h.share; steps = h.
 
 -- x is one of the seat's own words, or one of the frozen words
 abbrev pub Owns : Holding → ℕ → Type 0
-Owns h x = has x h.own ≡ 1
+Owns h x = occurrences x h.own ≡ 1
 
 abbrev pub SeesFrozen : Holding → ℕ → Type 0
-SeesFrozen h x = has x h.frozen ≡ 1
+SeesFrozen h x = occurrences x h.frozen ≡ 1
 
 abbrev pub OwnsRange : Holding → ℕ → ℕ → Type 0
 OwnsRange h first count = (x : ℕ) → first ≤ x → x < first + count → Owns h x
@@ -43,8 +43,8 @@ after_store h x u = holding h.table (stored_view (view_of h) x u)
 abbrev pub after_split : List ℕ → Holding → Holding
 after_split words h = holding h.table (kept_view words (view_of h))
 
-abbrev pub handed_over : List ℕ → Holding → Holding
-handed_over words h = holding h.table (handed_view words (view_of h))
+abbrev pub handed_holding : List ℕ → Holding → Holding
+handed_holding words h = holding h.table (handed_view words (view_of h))
 
 abbrev pub after_join : Holding → Holding → Holding
 after_join h k = holding h.table (joined_view (view_of h) (view_of k))

@@ -11,18 +11,18 @@ abbrev pub value_in : WordMap → ℕ → Option ℤ
 value_in [] x = None
 value_in (p ∷ ps) x = cond (eqb p.0 x) (Some p.1) (value_in ps x)
 
-abbrev pub number_of : Option ℤ → ℕ
-number_of None = 0
-number_of (Some u) = 1
+abbrev pub option_count : Option ℤ → ℕ
+option_count None = 0
+option_count (Some u) = 1
 
 -- 1 where the map has the word, else 0
-abbrev pub has : ℕ → WordMap → ℕ
-has x m = number_of (value_in m x)
+abbrev pub occurrences : ℕ → WordMap → ℕ
+occurrences x m = option_count (value_in m x)
 
 -- the map on the words that pass a test
-abbrev pub restricted : (ℕ → Bool) → WordMap → WordMap
-restricted test [] = []
-restricted test (p ∷ ps) = cond (test p.0) (p ∷ restricted test ps) (restricted test ps)
+abbrev pub restriction : (ℕ → Bool) → WordMap → WordMap
+restriction test [] = []
+restriction test (p ∷ ps) = cond (test p.0) (p ∷ restriction test ps) (restriction test ps)
 
 -- whether a word is in a list of words
 abbrev pub is_in : List ℕ → ℕ → Bool

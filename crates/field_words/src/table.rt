@@ -4,7 +4,8 @@ ghost use Rattle.liszt_base.specs.Reductions.{fold};
 ghost use Rattle.batch_core.specs.declared.acts.Act.TheVariants.{Read, Load, Put, Fold};
 ghost use Rattle.field_words.specs.Events.{IsEvent};
 ghost use Rattle.field_words.specs.Maps.{value_in};
-ghost use Rattle.field_words.specs.Holdings.{Owns, OwnsRange, SeesFrozen, after_freeze, after_join, after_load, after_split, after_store, after_thaw, first_holding, handed_over};
+ghost use Rattle.field_words.specs.Views.{full_share};
+ghost use Rattle.field_words.specs.Holdings.{Owns, OwnsRange, SeesFrozen, after_freeze, after_join, after_load, after_split, after_store, after_thaw, first_holding, handed_holding};
 
 use crate::rule::{
     Freeze, HandedWords, JoinViews, LoadFrozen, LoadOwn, Ownership, Part, Span, SplitView,
@@ -108,7 +109,7 @@ impl FieldTable {
         requires table { s.old.table ≡ self.now }
         requires share { 2 ≤ s.old.share }
         ensures seat { s.new ≡ after_split (P.words part.now) s.old }
-        ensures new { result ≡ handed_over (P.words part.now) s.old }
+        ensures new { result ≡ handed_holding (P.words part.now) s.old }
     {
         self.split_as::<Brand, P>(s, part)
     }
@@ -119,7 +120,7 @@ impl FieldTable {
         requires table { s.old.table ≡ self.now }
         requires share { 2 ≤ s.old.share }
         ensures seat { s.new ≡ after_split (P.words part.now) s.old }
-        ensures new { result ≡ handed_over (P.words part.now) s.old }
+        ensures new { result ≡ handed_holding (P.words part.now) s.old }
     {
         FieldSeat {
             seat: self.table.shared.split_seat::<SplitView<A>>(&mut s.seat),
@@ -138,7 +139,7 @@ impl FieldTable {
     /// Moves `count` own words from `first` on to the frozen ones. The seat has the full share, 65.
     pub fn freeze(&self, s: &mut FieldSeat, first: u32, count: u32)
         requires table { s.old.table ≡ self.now }
-        requires share { s.old.share ≡ 65 }
+        requires share { s.old.share ≡ full_share }
         requires own { OwnsRange s.old first count }
         ensures { s.new ≡ after_freeze first count s.old }
     {
@@ -149,7 +150,7 @@ impl FieldTable {
     fn freeze_as<A: Span>(&self, s: &mut FieldSeat, first: u32, count: u32)
         requires range { (A.first ≡ first) × (A.count ≡ count) }
         requires table { s.old.table ≡ self.now }
-        requires full_share { s.old.share ≡ 65 }
+        requires full_share { s.old.share ≡ full_share }
         ensures { s.new ≡ after_freeze first count s.old }
     {
         self.table.shared.load::<Freeze<A>>(&mut s.seat, 0);
@@ -158,7 +159,7 @@ impl FieldTable {
     /// Moves all frozen words to the own ones. The seat has the full share, 65.
     pub fn thaw(&self, s: &mut FieldSeat)
         requires table { s.old.table ≡ self.now }
-        requires share { s.old.share ≡ 65 }
+        requires share { s.old.share ≡ full_share }
         ensures { s.new ≡ after_thaw s.old }
     {
         self.table.shared.load::<Thaw>(&mut s.seat, 0);

@@ -1,4 +1,5 @@
 use Rattle.std.proofs.Common.{◌≡◌, ap, ◌∙◌, arith}
+use Rattle.field_words.specs.Views.{full_share}
 use Rattle.field_words.proofs.SeatLemmas.{same_table, seat_invariant, seat_frozen}
 use Rattle.field_words.proofs.StepLemmas.{freeze_keeps}
 use Rattle.field_words.proofs.table.FieldTable.freeze_as.Goals as goal
@@ -6,7 +7,7 @@ use Rattle.field_words.proofs.table.FieldTable.freeze_as.Goals as goal
 pub load-requires : goal.load-requires
 load-requires g c =
     let same = same_table c.s.view_is c.requires.table c.self.view_is in
-    let share : c.s.inside.seat.me.0.share ≡ 65 = ap (λ h. h.share) c.s.view_is ∙ c.requires.full_share in (
+    let share : c.s.inside.seat.me.0.share ≡ full_share = ap (λ h. h.share) c.s.view_is ∙ c.requires.full_share in (
       same,
       omega (arith, c.self.invariant),
       freeze_keeps c.self.inside.table.shared.key c.self.inside.table.shared.table_id.slots c.s.inside.seat.id g.A.Span.first g.A.Span.count
