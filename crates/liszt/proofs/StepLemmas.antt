@@ -1,5 +1,5 @@
 -- The steps that read the inputs, joined.
-use Rattle.std.proofs.Common.{◌≡◌, ℕ, ◌≤◌, inl, inr, List, length, Option, Some, None, MatchOption, MatchResult, Result, Ok, Err, refl, sym, ap, subst, ◌∙◌, arith, ℤ, pos, ◌+ℤ◌, ◌≤ℤ◌, ◌⊎◌}
+use Rattle.std.proofs.Common.{◌≡◌, ℕ, ◌≤◌, inl, inr, List, [], length, Option, Some, None, MatchOption, MatchResult, Result, Ok, Err, refl, sym, ap, subst, ◌∙◌, arith, ℤ, pos, ◌+ℤ◌, ◌≤ℤ◌, ◌⊎◌}
 use Rattle.std.specs.Prelude.{IfOk, FitsSigned}
 use Rattle.std.proofs.lemmas.Int.{ints, to_z-of_z}
 use Rattle.std.proofs.lemmas.List.{length-map}
@@ -43,8 +43,10 @@ use Rattle.liszt_lexer.specs.declared.token.Token.{Token}
 use Rattle.liszt_lexer.proofs.FindingLemmas.{few_with_limit}
 use Rattle.liszt_parser.proofs.FewNodes.{nodes_within}
 use Rattle.liszt_tree.specs.Tree.{program_tree}
-use Rattle.phase_types.specs.Checked.{item_count}
-use Rattle.phase_types.proofs.CheckedLemmas.{items_are_nodes}
+use Rattle.liszt_base.specs.Gives.{Gives}
+use Rattle.phase_types.specs.Checked.{CheckedProgram, checked_program, item_count}
+use Rattle.phase_types.proofs.CheckedLemmas.{only_fault, checked_is_typed, items_are_nodes}
+use Rattle.phase_types.proofs.FaultLemmas.{no_fault}
 
 -- The program of a text, from its tokens
 pub program_read : (text : List ℕ) (lexed : LexedText) (result : Result Tree (Refused ProgramFault)) → lexed_text text ≡ Ok lexed
@@ -217,6 +219,16 @@ all_inputs words files c program table mesh made before t u now is first second 
     go : (made : Result Job Ended) → MakesJob program mesh made → Prepares words files before now made
     go (Ok job) makes = comes (record { ended = Done; text = job_text job }) (job_finishes program mesh job makes)
     go (Err ended) makes = refusal_finishes (ResultsIn (IsLost files before now) words files) program mesh ended comes makes
+
+-- a program that was checked has no fault, and one that was refused has the fault of its walk
+pub no_fault_if_checked : (tree : Main) (checked : CheckedProgram) → checked_program tree ≡ Ok checked → check_fault tree ≡ None
+no_fault_if_checked tree checked is = no_fault tree (checked_is_typed tree checked is)
+
+pub job_refused : (tree : Main) (mesh : MeshLists) (made : Result Job Ended) (refused : Refused ProgramFault)
+    → Gives (checked_program tree) (Err refused) → made ≡ Err (ending_of program_ending refused) → MakesJob tree mesh made
+job_refused tree mesh made (Fault fault) is same =
+    subst (MakesJob tree mesh) (sym same) (inr (inl (fault, only_fault tree fault is, refl)))
+job_refused tree mesh made OutOfMemory is same = subst (MakesJob tree mesh) (sym same) (inl refl)
 
 -- the ending of a program's fault is neither Usage nor a fault of the shelf
 program_cause : (shelf shelf' : ℕ) (fault : ProgramFault) → shelf' ≡ shelf → HasStepCause {A = Job} shelf shelf' (Err (program_ending fault))
