@@ -4,8 +4,9 @@ use crate::shelves::word_list;
 use liszt::{Ended, HostShelf, HostSink, OpenGate, run_words};
 use liszt_base::{Input, NoMemory};
 use liszt_io::{Failed, Sink};
+use std::alloc::{AllocError, Global};
 use std::fs;
-use std::io::{self, ErrorKind, Write};
+use std::io::{self, BufWriter, ErrorKind, Write};
 use std::process::Abort;
 use std::rt::Files;
 use std::sync::Wait;
@@ -22,7 +23,10 @@ fn compare_run<R: Threads + Wait + Abort + AllocGlobal + Sync + Files>(
     let words = word_list(alloc, &["seq", "p", "n", "e"])?;
     let mut shelf = HostShelf::new(rt);
     let mut bytes = Vec::new(alloc);
-    let mut out = HostSink::new(&mut bytes);
+    let Ok(writer) = BufWriter::new(alloc, &mut bytes) else {
+        return Err(NoMemory);
+    };
+    let mut out = HostSink::new(writer);
     let ended = run_words(rt, alloc, &words, &mut shelf, &mut out, &OpenGate);
     drop(out);
     assert_eq!(rt; bytes.as_slice(), text.as_bytes());
@@ -51,7 +55,7 @@ fn real_files(rt: HostRuntime) -> Result<(), Fail> {
     Ok(())
 }
 
-/// A writer whose first `times` writes are interrupted.
+/// A writer whose first `times` calls are interrupted.
 #[derive(Drop)]
 struct Interrupted {
     times: u32,
@@ -59,25 +63,40 @@ struct Interrupted {
 
 impl Write for Interrupted {
     fn write(&mut self, buf: &[u8]) -> io::Result<usize> {
-        if self.times > 0 {
-            self.times -= 1;
-            return Err(io::Error::from(ErrorKind::Interrupted));
-        }
+        self.flush()?;
         Ok(buf.len())
     }
 
     fn flush(&mut self) -> io::Result<()> {
+        if self.times > 0 {
+            self.times -= 1;
+            return Err(io::Error::from(ErrorKind::Interrupted));
+        }
         Ok(())
     }
 }
 
-/// An interrupted write is tried again a thousand times, and no more.
+/// A sink over such a writer, with a buffer that has no room.
+fn interrupted_sink(alloc: Global, times: u32) -> Result<HostSink<Interrupted>, AllocError> {
+    match BufWriter::with_capacity(alloc, 0, Interrupted { times }) {
+        Ok(writer) => Ok(HostSink::new(writer)),
+        Err(_) => Err(AllocError),
+    }
+}
+
+/// An interrupted write or flush is tried again a thousand times, and no more.
 #[test]
-fn interrupted_writes(rt: HostRuntime) {
-    let mut out = HostSink::new(Interrupted { times: 1000 });
+fn interrupted_calls(rt: HostRuntime) -> Result<(), Fail> {
+    let alloc = rt.alloc();
+    let mut out = interrupted_sink(alloc, 1000)?;
     assert_eq!(&rt; out.write(b"text"), Ok(4));
     assert_eq!(&rt; out.write(b""), Ok(0));
-    let mut out = HostSink::new(Interrupted { times: 1001 });
+    let mut out = interrupted_sink(alloc, 1001)?;
     assert_eq!(&rt; out.write(b"text"), Err(Failed));
     assert_eq!(&rt; out.write(b"text"), Ok(4));
+    let mut out = interrupted_sink(alloc, 1000)?;
+    assert_eq!(&rt; out.flush(), Ok(()));
+    let mut out = interrupted_sink(alloc, 1001)?;
+    assert_eq!(&rt; out.flush(), Err(Failed));
+    Ok(())
 }

@@ -58,6 +58,7 @@ pub fn end_refused<S: Sink>(out: &mut S, ended: Ended) -> Ended
     ensures flushed { (result ≡ NotWritten → ⊥) → S.is_flushed out.new ≡ true }
     ensures cause { (ended ≡ NotWritten → ⊥) → result ≡ NotWritten
         → Rose (S.faults out.old) (S.faults out.new) }
+    ensures no_fault { (result ≡ NotWritten → ⊥) → S.faults out.new ≡ S.faults out.old }
 {
     ended_by(write_refusal(out, &ended), ended)
 }

@@ -1,10 +1,11 @@
-ghost use Rattle.std.specs.Prelude.{◌≡◌, ◌<◌, ◌≤◌, length, None, IfOk, true};
+ghost use Rattle.std.specs.Prelude.{◌≡◌, ◌<◌, ◌≤◌, [], length, None, IfOk, OnOk, true};
+ghost use Rattle.std.specs.Io.Buffered.{writer_buffer, writer_contents};
 ghost use Rattle.std.proofs.Common.{rules};
 ghost use Rattle.std.specs.Io.KnownBytes.{WriteAppends, ReadConsumes, Keeps};
 
 use crate::outside::{Failed, Shelf, Sink};
 use std::fs;
-use std::io::{ErrorKind, Read, Write};
+use std::io::{BufWriter, ErrorKind, Read, Write};
 use std::rt::Files;
 
 /// How often a call is tried: once, and a thousand times again where it was interrupted.
@@ -41,9 +42,10 @@ fn write_some<W: Write>(writer: &mut W, piece: &[u8]) -> Result<usize, Failed>
     Err(Failed)
 }
 
-/// Flushes a writer.
-fn flush_all<W: Write>(writer: &mut W) -> Result<(), Failed>
-    ensures bytes { Keeps (W.contents writer.old) (W.contents writer.new) }
+/// Flushes a writer. Afterwards its buffer is empty.
+fn flush_all<W: Write + Drop>(writer: &mut BufWriter<W>) -> Result<(), Failed>
+    ensures bytes { Keeps (writer_contents W.contents writer.old) (writer_contents W.contents writer.new) }
+    ensures empty { OnOk result (writer_buffer writer.new ≡ []) }
 {
     for _ in 0..TRIES {
         match writer.flush() {
@@ -146,17 +148,17 @@ impl<R: Files> Shelf for HostShelf<'_, R> {
     ghost total = { λ s files is. Prim.search rules };
 }
 
-/// A writer of the system. It exposes no bytes.
+/// A writer of the system, over a buffer. It exposes no bytes.
 #[derive(Drop)]
 pub struct HostSink<W: Write + Drop> {
-    inner: W,
+    inner: BufWriter<W>,
     is_flushed: bool,
     faults: u64,
 }
 
 impl<W: Write + Drop> HostSink<W> {
-    /// A sink that writes to this writer.
-    pub fn new(inner: W) -> Self
+    /// A sink that writes to this writer, whose buffer may have no room.
+    pub fn new(inner: BufWriter<W>) -> Self
         ensures { result ≡ record { inner = inner; is_flushed = true; faults = 0 } }
     {
         HostSink {
@@ -168,7 +170,8 @@ impl<W: Write + Drop> HostSink<W> {
 }
 
 impl<W: Write + Drop> Sink for HostSink<W> {
-    ghost use Rattle.std.specs.Prelude.{◌≡◌, None};
+    ghost use Rattle.std.specs.Prelude.{◌≡◌, [], None, OnOk};
+    ghost use Rattle.std.specs.Io.Buffered.{writer_buffer, writer_contents};
     ghost use Rattle.std.specs.Io.KnownBytes.{WriteAppends, Keeps};
     ghost use Rattle.liszt_io.specs.Causes.{HasCause};
     ghost use Rattle.liszt_io.specs.Sinks.{Takes, flushed_by_write, flushed_by_flush};
@@ -183,8 +186,8 @@ impl<W: Write + Drop> Sink for HostSink<W> {
         ensures cause { HasCause self.old.faults self.new.faults result }
         ensures takes { Takes None None piece.now result }
         ensures flushed { self.new.is_flushed ≡ flushed_by_write self.old.is_flushed result }
-        ensures bytes { WriteAppends (W.contents self.old.inner) (W.contents self.new.inner) result
-            piece.now }
+        ensures bytes { WriteAppends (writer_contents W.contents self.old.inner)
+            (writer_contents W.contents self.new.inner) result piece.now }
     {
         if piece.is_empty() {
             return Ok(0);
@@ -200,7 +203,9 @@ impl<W: Write + Drop> Sink for HostSink<W> {
     fn flush(&mut self) -> Result<(), Failed>
         ensures cause { HasCause self.old.faults self.new.faults result }
         ensures flushed { self.new.is_flushed ≡ flushed_by_flush self.old.is_flushed result }
-        ensures bytes { Keeps (W.contents self.old.inner) (W.contents self.new.inner) }
+        ensures bytes { Keeps (writer_contents W.contents self.old.inner)
+            (writer_contents W.contents self.new.inner) }
+        ensures empty { OnOk result (writer_buffer self.new.inner ≡ []) }
     {
         let flushed = flush_all(&mut self.inner);
         match flushed {

@@ -1,14 +1,18 @@
 //! `liszt_run`: runs a program over a tetrahedral mesh and prints what it means.
 #![tactic(auto)]
 
-ghost use Rattle.std.specs.Prelude.{◌≡◌, List, map, drop, IfOk, IfErr, Err, true};
+ghost use Rattle.std.specs.Prelude.{◌≡◌, ◌⊎◌, List, map, drop, IfOk, IfErr, Some, None, Err, true};
 ghost use Rattle.std.specs.Process.{exit_status};
 ghost use Rattle.std.specs.IoError.{error_kind};
 ghost use Rattle.std.specs.String.{string_bytes};
 ghost use Rattle.std.specs.Vec.Iter.{into_iter_items};
-ghost use Rattle.liszt_report.specs.declared.ended.Ended.TheVariants.{WriteFault as NotWritten, NoMemory as OutOfMemory};
+ghost use Rattle.liszt_report.specs.declared.ended.Ended.TheVariants.{Usage, WriteFault as NotWritten, NoMemory as OutOfMemory};
 ghost use Rattle.liszt_report.specs.Endings.{status};
-ghost use Rattle.liszt.specs.Answers.{Wrote, Refuses};
+ghost use Rattle.liszt_io.specs.Causes.{Rose};
+ghost use Rattle.liszt_io.specs.Shelves.{Files};
+ghost use Rattle.command_words.specs.Commands.{command_of};
+ghost use Rattle.liszt.specs.Expected.{Outcome, Expected};
+ghost use Rattle.liszt.specs.Answers.{outside, Answers, Wrote, HasCauses, IsOutcome, Refuses};
 ghost use Rattle.liszt_run.specs.Arguments.{unread_ending as UnreadEnding};
 
 use liszt::{
@@ -17,7 +21,7 @@ use liszt::{
 use liszt_base::NoMemory;
 use std::alloc::Global;
 use std::env::{self, Args};
-use std::io::{self, BufWriter, ErrorKind};
+use std::io::{self, BufWriter, ErrorKind, Write};
 use std::process::ExitCode;
 use std::sync::Wait;
 use std::thread::Threads;
@@ -65,7 +69,21 @@ fn run_given<R: Threads + Wait + Sync, F: Shelf, S: Sink>(
     shelf: &mut F,
     out: &mut S,
 ) -> Ended
-    ensures ran { IfOk words (λ words. Wrote words (S.output out.old) (S.output out.new) result) }
+    ensures answers { IfOk words (λ words. (files : Files) → F.contents shelf.old ≡ Some files
+        → Answers words files
+        (outside (F.tally shelf.old) (F.faults shelf.old) (S.output out.old))
+        (outside (F.tally shelf.new) (F.faults shelf.new) (S.output out.new)) result) }
+    ensures wrote { IfOk words (λ words. Wrote words (S.output out.old) (S.output out.new) result) }
+    ensures complete { IfOk words (λ words. (files : Files) (outcome : Outcome)
+        → F.contents shelf.old ≡ Some files → Expected words files outcome
+        → (Rose (F.tally shelf.old).others (F.tally shelf.new).others → ⊥)
+        → (Rose (S.faults out.old) (S.faults out.new) → ⊥)
+        → IsOutcome outcome (S.output out.old) (S.output out.new) result) }
+    ensures causes { IfOk words (λ _. HasCauses (F.faults shelf.old) (F.faults shelf.new)
+        (S.faults out.old) (S.faults out.new) result) }
+    ensures usage { IfOk words (λ words. command_of words ≡ None
+        → ((result ≡ Usage) ⊎ (result ≡ NotWritten)) × (shelf.new ≡ shelf.old)) }
+    ensures only { IfOk words (λ words. result ≡ Usage → command_of words ≡ None) }
     ensures refused { IfErr words (λ ended.
         Refuses ended (S.output out.old) (S.output out.new) result) }
     ensures flushed { (result ≡ NotWritten → ⊥) → S.is_flushed out.new ≡ true }
@@ -73,6 +91,16 @@ fn run_given<R: Threads + Wait + Sync, F: Shelf, S: Sink>(
     match words {
         Ok(words) => run_words(rt, alloc, &words, shelf, out, &OpenGate),
         Err(ended) => end_refused(out, ended),
+    }
+}
+
+/// Ends a run for which there is no memory, by a writer without a buffer.
+fn end_unbuffered<W: Write + Drop>(alloc: Global, writer: W) -> Ended
+    ensures { (result ≡ OutOfMemory) ⊎ (result ≡ NotWritten) }
+{
+    match BufWriter::with_capacity(alloc, 0, writer) {
+        Ok(writer) => end_refused(&mut HostSink::new(writer), Ended::NoMemory),
+        Err(_) => unreachable!(),
     }
 }
 
@@ -86,8 +114,7 @@ fn exit_code(ended: Ended) -> ExitCode
 fn main(rt: HostRuntime) -> ExitCode {
     let alloc = rt.alloc();
     let Ok(writer) = BufWriter::new(alloc, io::writer(&rt)) else {
-        let mut out = HostSink::new(io::writer(&rt));
-        return exit_code(end_refused(&mut out, Ended::NoMemory));
+        return exit_code(end_unbuffered(alloc, io::writer(&rt)));
     };
     let words = words_of(alloc, env::args(&rt));
     let mut shelf = HostShelf::new(&rt);
