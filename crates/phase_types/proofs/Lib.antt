@@ -4,6 +4,7 @@ pub mod CheckedLemmas
 pub mod ConflictLemmas
 pub mod FaultLemmas
 pub mod ModeLemmas
+pub mod NameLemmas
 pub mod PartLemmas
 pub mod ResolveLemmas
 pub mod StepLemmas

@@ -1,6 +1,5 @@
 -- Resolved programs: the code of each part of a program, or its first fault, in the order of the walk. This project's own.
 use Rattle.std.specs.Prelude.{ℕ, ◌+◌, ◌&&◌, Bool, true, false, if◌then◌else◌, Option, Some, None, List, [], ◌∷◌, ◌++◌, length, Result, Ok, Err}
-use Rattle.std.specs.List.{find}
 use Rattle.std.specs.Str.{bytes_eq}
 use Rattle.liszt_base.specs.Kinds.{is_kind, has_set, kind_of}
 use Rattle.liszt_base.specs.declared.accesses.Mode.{Mode}
@@ -38,6 +37,8 @@ use Rattle.resolved_code.specs.declared.expressions.TruthLink.{TruthLink}
 use Rattle.resolved_code.specs.declared.items.ComprehensionCode.{ComprehensionCode}
 use Rattle.resolved_code.specs.declared.statements.StatementCode.{StatementCode}
 use Rattle.resolved_code.specs.declared.statements.StatementCode.TheVariants as code
+pub use Rattle.resolved_code.specs.Accesses.{first_access}
+pub use Rattle.phase_types.specs.declared.frame.Frame.{Frame}
 use Rattle.phase_types.specs.declared.resolution.ChainCode.{ChainCode}
 use Rattle.phase_types.specs.declared.resolution.ChainCode.TheVariants as chain
 use Rattle.phase_types.specs.declared.resolution.Resolution.{Resolution}
@@ -76,9 +77,6 @@ new_name (Some other) at = fails NameTwice at
 -- another mode than the first one is a conflict.
 abbrev pub Accesses : Type 0
 Accesses = Option (List AccessAt)
-
-abbrev pub first_access : List AccessAt → Subject → Option AccessAt
-first_access accesses subject = find (λ other. is_subject subject other.subject) accesses
 
 abbrev pub conflict_between : Place → Place → ProgramFault
 conflict_between place first = record { what = PhaseConflict; place = place; first = Some first }
@@ -182,6 +180,16 @@ abbrev pub truth_link : Place → Option Connective → TruthCode → Result Tru
 truth_link place (Some op) arg = Ok (record { op = op; arg = arg })
 truth_link place None arg = fails TypeMismatch place
 
+abbrev pub number_operand : Place → Sign → TypedCode → Result NumberLink ProgramFault
+number_operand place sign operand = do
+  arg ← number_in place operand
+  number_link place (arithmetic_of sign) arg
+
+abbrev pub truth_operand : Place → Sign → TypedCode → Result TruthLink ProgramFault
+truth_operand place sign operand = do
+  arg ← truth_in place operand
+  truth_link place (connective_of sign) arg
+
 -- the start of a chain by its first operand, a chain with a further operand, and a whole chain
 abbrev pub first_of_chain : TypedCode → ChainCode
 first_of_chain (typed.Number value) = chain.Numbers value []
@@ -189,13 +197,13 @@ first_of_chain (typed.Truth value) = chain.Truths value []
 first_of_chain (typed.Element kind value) = chain.Element kind value
 
 abbrev pub extended_chain : Place → Sign → ChainCode → TypedCode → Result ChainCode ProgramFault
-extended_chain place sign (chain.Numbers first rest) (typed.Number arg) = do
-  next ← number_link place (arithmetic_of sign) arg
+extended_chain place sign (chain.Numbers first rest) operand = do
+  next ← number_operand place sign operand
   Ok (chain.Numbers first (rest ++ next ∷ []))
-extended_chain place sign (chain.Truths first rest) (typed.Truth arg) = do
-  next ← truth_link place (connective_of sign) arg
+extended_chain place sign (chain.Truths first rest) operand = do
+  next ← truth_operand place sign operand
   Ok (chain.Truths first (rest ++ next ∷ []))
-extended_chain place sign _ _ = fails TypeMismatch place
+extended_chain place sign (chain.Element kind value) operand = fails TypeMismatch place
 
 abbrev pub number_chain : NumberCode → List NumberLink → NumberCode
 number_chain first [] = first
@@ -275,11 +283,6 @@ resolved_element names accesses e = do
 
 -- A FRAME of a comprehension so far: the number of its number slots, the kinds of its element slots, and its accesses. Each declaration
 -- has a slot of its own; after a block its names are no longer visible, and its slots remain.
-pub record Frame : Type 0 where
-  pub numbers : ℕ
-  pub elements : List Kind
-  pub accesses : Accesses
-
 abbrev pub with_accesses : Accesses → Frame → Frame
 with_accesses accesses frame = record { numbers = frame.numbers; elements = frame.elements; accesses = accesses }
 

@@ -3,8 +3,11 @@
 #![tactic(auto)]
 
 mod cases;
+mod frame;
 mod info;
 pub mod laws;
+mod names;
 mod resolution;
+mod values;
 
 pub use info::FieldInfo;
