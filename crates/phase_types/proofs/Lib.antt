@@ -3,6 +3,7 @@ pub mod BodyLemmas
 pub mod CheckedLemmas
 pub mod ConflictLemmas
 pub mod FaultLemmas
+pub mod LoopLemmas
 pub mod ModeLemmas
 pub mod NameLemmas
 pub mod PartLemmas

@@ -158,6 +158,16 @@ comparison_code place rel (typed.Element kind left) (typed.Element other right) 
     if is_sameness rel && is_kind kind other then Ok (typed.Truth (truth.CompareElements (is_equality rel) left right)) else fails TypeMismatch place
 comparison_code place rel _ _ = fails TypeMismatch place
 
+abbrev pub negated : Place → TypedCode → Result TypedCode ProgramFault
+negated place operand = do
+  value ← number_in place operand
+  Ok (typed.Number (number.Neg place value))
+
+abbrev pub inverted : Place → TypedCode → Result TypedCode ProgramFault
+inverted place operand = do
+  value ← truth_in place operand
+  Ok (typed.Truth (truth.Not value))
+
 -- the operators of chains, and their links. A chain without links is its first operand.
 abbrev pub arithmetic_of : Sign → Option Arithmetic
 arithmetic_of sign.Plus = Some arithmetic.Plus
@@ -240,12 +250,12 @@ abbrev mutual
     Ok (call, second.1)
   resolved_expression names accesses (Neg place arg) = do
     operand ← resolved_expression names accesses arg
-    value ← number_in place operand.0
-    Ok (typed.Number (number.Neg place value), operand.1)
+    value ← negated place operand.0
+    Ok (value, operand.1)
   resolved_expression names accesses (Not place arg) = do
     operand ← resolved_expression names accesses arg
-    value ← truth_in place operand.0
-    Ok (typed.Truth (truth.Not value), operand.1)
+    value ← inverted place operand.0
+    Ok (value, operand.1)
   resolved_expression names accesses (Chain level first links) = do
     operand ← resolved_expression names accesses first
     resolved_links names operand.1 (first_of_chain operand.0) links

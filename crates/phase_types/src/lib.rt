@@ -3,6 +3,7 @@
 #![tactic(auto)]
 
 mod cases;
+mod expression;
 mod frame;
 mod info;
 pub mod laws;
