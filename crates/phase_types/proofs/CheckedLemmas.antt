@@ -19,12 +19,12 @@ use Rattle.phase_types.specs.declared.resolution.Resolution.{Resolution}
 use Rattle.phase_types.specs.declared.resolution.Resolution.TheVariants as resolution
 use Rattle.phase_types.specs.Checked.{items_of_item, item_count, MainState, built_in_names, first_state, declares_field, declares_scalar, with_comprehension_code, opens_block, closes_block, assigned_scalar, block_code, else_block, resolved_item, resolved_items, CheckedProgram, checked_program, access_mode, HasPartsOf, IsWithin}
 use Rattle.phase_types.specs.Environments.{Environment, Binding, FieldName, ScalarName, ElementName, binding_of, first_declared, Comprehension, Part, ScopePart, field_part, scalar_part, comprehension_part, scope_part, fields_in, scalars_in, comprehensions_in, scopes_in, Site, start, with_field, with_scalar, comprehension_at, with_comprehension, block_start, after_block, has_else_block, after_item, after_main}
-use Rattle.phase_types.specs.Resolve.{◌>>=◌, Names, resolution_of, new_name, Accesses, accesses_in, no_slots, with_element, element_name, resolved_number, resolved_truth, resolved_body, resolved_comprehension}
+use Rattle.phase_types.specs.Resolve.{◌>>=◌, Frame, declared_element, Names, resolution_of, new_name, Accesses, accesses_in, no_slots, with_element, element_name, resolved_number, resolved_truth, resolved_body, resolved_comprehension}
 use Rattle.phase_types.specs.Types.{NumberType, TruthType}
 use Rattle.phase_types.specs.Walk.{Subject, OfField, OfScalar, Step, TestStep, AccessStep, access_of, mode_in, typed_steps, name_requirement, body_steps, steps_in, faults_in_steps, faults_in_main, main_target_steps, faults_in_item, faults_in_items, check_fault}
 use Rattle.phase_types.specs.Typed.{IsTyped}
 use Rattle.phase_types.proofs.FaultLemmas.{no_fault, is_typed}
-use Rattle.phase_types.proofs.BodyLemmas.{declared, new_walks, body_walks}
+use Rattle.phase_types.proofs.BodyLemmas.{after_body, declared, new_walks, body_walks}
 use Rattle.phase_types.proofs.ConflictLemmas.{first_fault, Summarizes, no_accesses, WalksSteps, walks_steps, by_fault, main_walk}
 use Rattle.phase_types.proofs.ResolveLemmas.{binding_in, Agrees, number_walks, truth_walks}
 use Rattle.phase_types.proofs.WalkLemmas.{walk, Walks, IsAny}
@@ -96,15 +96,27 @@ codes_append (x ∷ cs) (y ∷ comprehensions) c comprehension h g = (h.0, codes
 codes_append [] (y ∷ comprehensions) c comprehension h g = absurd h
 codes_append (x ∷ cs) [] c comprehension h g = absurd h
 
-comprehension_found : {names : Names} {environment : Environment} → Agrees names environment → (name : List ℕ) (over : Kind) (body : Body) → resolution_of names name ≡ None
-    → Finds (faults_in_steps [] (body_steps ((name, ElementName over) ∷ environment) body))
-    (λ c. IsCodeOf c (record { environment = environment; name = name; over = over; body = body })) (resolved_comprehension names name over body)
-comprehension_found {names = names} {environment = environment} agrees name over body new =
+name_found : {names : Names} {environment : Environment} → Agrees names environment → (name : List ℕ) (at : Place)
+    → Finds (faults_in_main (name_requirement environment name at)) (λ u. resolution_of names name ≡ None) (new_name (resolution_of names name) at)
+name_found {names = names} {environment = environment} agrees name at =
+    found_main {s = λ (u : Unit {0}). None} (name_requirement environment name at) (new_name (resolution_of names name) at) (new_walks agrees None name at)
+
+comprehension_found : {names : Names} {environment : Environment} → Agrees names environment → (name : List ℕ) (at : Place) (over : Kind) (body : Body)
+    → Finds (faults_in_main (name_requirement environment name at) ++ faults_in_steps [] (body_steps ((name, ElementName over) ∷ environment) body))
+    (λ c. IsCodeOf c (record { environment = environment; name = name; over = over; body = body })) (resolved_comprehension names name at over body)
+comprehension_found {names = names} {environment = environment} agrees name at over body =
     let steps : List Step = body_steps ((name, ElementName over) ∷ environment) body in
-    let block : _ = resolved_body (names ++ element_name name over no_slots ∷ []) (with_element over (Some []) no_slots) [] body in
-    found_made block _
-    (found_steps steps (walk (Some []) steps) block (body_walks (declared name (resolution.Element 0 over) agrees new) (with_element over (Some []) no_slots) [] body) (walks_steps steps [] [] no_accesses))
-    (λ b h. record { over = refl; modes = λ subject. ap (option_map (λ access. access.mode)) (h.found subject) })
+    found_both {P = λ (d : ℕ × Names × Frame). Agrees d.1 ((name, ElementName over) ∷ environment) × (d.2.accesses ≡ Some [])}
+    (faults_in_main (name_requirement environment name at)) (faults_in_steps [] steps) (declared_element names no_slots name at over) _
+    (found_made (new_name (resolution_of names name) at) _ (name_found agrees name at) (λ u new. new_element agrees name over new))
+    (λ d h. found_made (resolved_body d.1 d.2 [] body) _
+    (found_steps steps (walk (Some []) steps) (resolved_body d.1 d.2 [] body) (subst (λ accesses. Walks after_body IsAny (walk accesses steps) (resolved_body d.1 d.2 [] body)) (h.1) (body_walks (h.0) d.2 [] body))
+    (walks_steps steps [] [] no_accesses))
+    (λ b h. record { over = refl; modes = λ subject. ap (option_map (λ access. access.mode)) (h.found subject) }))
+  where
+    new_element : {names : Names} {environment : Environment} → Agrees names environment → (name : List ℕ) (over : Kind) → resolution_of names name ≡ None
+        → Agrees (names ++ element_name name over no_slots ∷ []) ((name, ElementName over) ∷ environment) × ((with_element over no_slots).accesses ≡ Some [])
+    new_element agrees name over new = (declared name (resolution.Element 0 over) agrees new, refl)
 
 -- THE MAIN PROGRAM so far has the names, the scope and the parts of its site
 pub record Follows (state : MainState) (site : Site) : Type 0 where
@@ -183,11 +195,6 @@ value_found {names = names} {environment = environment} agrees e = found_main (t
 test_found : {names : Names} {environment : Environment} → Agrees names environment → (e : Expression) → Finds (faults_in_main (typed_steps environment TruthType e)) IsAny (resolved_truth names None e)
 test_found {names = names} {environment = environment} agrees e = found_main (typed_steps environment TruthType e) (resolved_truth names None e) (truth_walks agrees None e)
 
-name_found : {names : Names} {environment : Environment} → Agrees names environment → (name : List ℕ) (at : Place)
-    → Finds (faults_in_main (name_requirement environment name at)) (λ u. resolution_of names name ≡ None) (new_name (resolution_of names name) at)
-name_found {names = names} {environment = environment} agrees name at =
-    found_main {s = λ (u : Unit {0}). None} (name_requirement environment name at) (new_name (resolution_of names name) at) (new_walks agrees None name at)
-
 declaration_found : {state next : MainState} {site after_site : Site} → Follows state site → (name : List ℕ) (at : Place) (init : Expression) (f : NumberCode × Accesses → ItemCode)
     → (resolution_of state.names name ≡ None → Follows next after_site)
     → Finds (faults_in_main (typed_steps site.environment NumberType init ++ name_requirement site.environment name at)) (λ (r : ItemCode × MainState). Follows r.1 after_site)
@@ -244,8 +251,7 @@ mutual
       found_both (faults_in_main (typed_steps site.environment TruthType test)) (faults_in_items (block_start site) body) (resolved_truth state.names None test) _ (test_found h.agrees test)
       (λ condition any. found_made (resolved_items (opens_block state) [] body) _ (items_found (opened state site h) [] body) (λ r f. closed state r.1 site _ h f))
   item_found {state = state} {site = site} h (MainFor place name at over body) =
-      found_both (faults_in_main (name_requirement site.environment name at)) (faults_in_steps [] (steps_in (comprehension_at site name over body))) (new_name (resolution_of state.names name) at) _ (name_found h.agrees name at)
-      (λ u new. found_made (resolved_comprehension state.names name over body) _ (comprehension_found h.agrees name over body new) (λ c is. comprehension_follows state site c (comprehension_at site name over body) h is))
+      found_made (resolved_comprehension state.names name at over body) _ (comprehension_found h.agrees name at over body) (λ c is. comprehension_follows state site c (comprehension_at site name over body) h is)
   item_found {state = state} {site = site} h (Print place value) = found_made (resolved_number state.names None value) _ (value_found h.agrees value) (λ v any. h)
 
   items_found : {state : MainState} {site : Site} → Follows state site → (done : List ItemCode) (program : Main)

@@ -146,8 +146,7 @@ abbrev mutual
     items ← resolved_items (opens_block state) [] body
     Ok (code.While place condition.0 (block_code state items.0), closes_block state items.1)
   resolved_item state (MainFor place name at over body) = do
-    new ← new_name (resolution_of state.names name) at
-    c ← resolved_comprehension state.names name over body
+    c ← resolved_comprehension state.names name at over body
     Ok (code.For (length state.comprehensions), with_comprehension_code c state)
   resolved_item state (Print place value) = do
     operand ← resolved_number state.names None value

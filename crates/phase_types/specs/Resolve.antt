@@ -296,11 +296,11 @@ resolved_element names accesses e = do
 abbrev pub with_accesses : Accesses → Frame → Frame
 with_accesses accesses frame = record { numbers = frame.numbers; elements = frame.elements; accesses = accesses }
 
-abbrev pub with_number : Accesses → Frame → Frame
-with_number accesses frame = record { numbers = frame.numbers + 1; elements = frame.elements; accesses = accesses }
+abbrev pub with_number : Frame → Frame
+with_number frame = record { numbers = frame.numbers + 1; elements = frame.elements; accesses = frame.accesses }
 
-abbrev pub with_element : Kind → Accesses → Frame → Frame
-with_element kind accesses frame = record { numbers = frame.numbers; elements = frame.elements ++ kind ∷ []; accesses = accesses }
+abbrev pub with_element : Kind → Frame → Frame
+with_element kind frame = record { numbers = frame.numbers; elements = frame.elements ++ kind ∷ []; accesses = frame.accesses }
 
 abbrev pub number_name : List ℕ → Frame → List ℕ × Resolution
 number_name name frame = (name, resolution.Number frame.numbers)
@@ -330,25 +330,42 @@ resolved_assignment names frame place how value (Some (resolution.Number slot)) 
   Ok (code.Local slot how operand.0, with_accesses operand.1 frame)
 resolved_assignment names frame place how value (Some other) = fails TypeMismatch place
 
+-- an assignment to a name with an argument
+abbrev pub resolved_field_assignment : Names → Frame → Place → How → Expression → Expression → Option Resolution → Result (StatementCode × Frame) ProgramFault
+resolved_field_assignment names frame place how target value found = do
+  field ← assigned_field place found
+  operand ← resolved_expression names frame.accesses target
+  at_element ← element_of_kind field.1 place operand.0
+  later ← with_access operand.1 (OfField field.0) (mode_by how) place
+  new_value ← resolved_number names later value
+  Ok (code.Field place field.0 how at_element new_value.0, with_accesses new_value.1 frame)
+
+-- DECLARATIONS of a local number and of an element, with their slots
+abbrev pub declared_number : Names → Frame → List ℕ → Place → Result (ℕ × Names × Frame) ProgramFault
+declared_number names frame name at = do
+  new ← new_name (resolution_of names name) at
+  Ok (frame.numbers, names ++ number_name name frame ∷ [], with_number frame)
+
+abbrev pub declared_element : Names → Frame → List ℕ → Place → Kind → Result (ℕ × Names × Frame) ProgramFault
+declared_element names frame name at kind = do
+  new ← new_name (resolution_of names name) at
+  Ok (length frame.elements, names ++ element_name name kind frame ∷ [], with_element kind frame)
+
 -- STATEMENTS, with the names and the frame at entry and those after them. Of a body the statements so far are given; its names end
 -- with it.
 abbrev mutual
   pub resolved_statement : Names → Frame → Statement → Result (StatementCode × Names × Frame) ProgramFault
   resolved_statement names frame (Var place name at init) = do
     value ← resolved_number names frame.accesses init
-    new ← new_name (resolution_of names name) at
-    Ok (code.Var frame.numbers value.0, names ++ number_name name frame ∷ [], with_number value.1 frame)
+    declared ← declared_number names (with_accesses value.1 frame) name at
+    Ok (code.Var declared.0 value.0, declared.1, declared.2)
   resolved_statement names frame (Val place name at init) = do
     value ← resolved_element names frame.accesses init
-    new ← new_name (resolution_of names name) at
-    Ok (code.Val (length frame.elements) value.0.1, names ++ element_name name value.0.0 frame ∷ [], with_element value.0.0 value.1 frame)
+    declared ← declared_element names (with_accesses value.1 frame) name at value.0.0
+    Ok (code.Val declared.0 value.0.1, declared.1, declared.2)
   resolved_statement names frame (Assign place name (Some target) how value) = do
-    field ← assigned_field place (resolution_of names name)
-    operand ← resolved_expression names frame.accesses target
-    at_element ← element_of_kind field.1 place operand.0
-    later ← with_access operand.1 (OfField field.0) (mode_by how) place
-    new_value ← resolved_number names later value
-    Ok (code.Field place field.0 how at_element new_value.0, names, with_accesses new_value.1 frame)
+    assignment ← resolved_field_assignment names frame place how target value (resolution_of names name)
+    Ok (assignment.0, names, assignment.1)
   resolved_statement names frame (Assign place name None how value) = do
     assignment ← resolved_assignment names frame place how value (resolution_of names name)
     Ok (assignment.0, names, assignment.1)
@@ -364,9 +381,9 @@ abbrev mutual
   resolved_statement names frame (For place name at set set_at arg body) = do
     operand ← resolved_expression names frame.accesses arg
     origin ← element_with_set set set_at operand.0
-    new ← new_name (resolution_of names name) at
-    block ← resolved_body (names ++ element_name name (kind_of set) frame ∷ []) (with_element (kind_of set) operand.1 frame) [] body
-    Ok (code.For (length frame.elements) set set_at origin block.0, names, block.1)
+    declared ← declared_element names (with_accesses operand.1 frame) name at (kind_of set)
+    block ← resolved_body declared.1 declared.2 [] body
+    Ok (code.For declared.0 set set_at origin block.0, names, block.1)
 
   pub resolved_body : Names → Frame → List StatementCode → Body → Result (List StatementCode × Frame) ProgramFault
   resolved_body names frame done no_statement = Ok (done, frame)
@@ -382,7 +399,8 @@ accesses_in (Some accesses) = accesses
 abbrev pub no_slots : Frame
 no_slots = record { numbers = 0; elements = []; accesses = Some [] }
 
-abbrev pub resolved_comprehension : Names → List ℕ → Kind → Body → Result ComprehensionCode ProgramFault
-resolved_comprehension names name over body = do
-  block ← resolved_body (names ++ element_name name over no_slots ∷ []) (with_element over (Some []) no_slots) [] body
+abbrev pub resolved_comprehension : Names → List ℕ → Place → Kind → Body → Result ComprehensionCode ProgramFault
+resolved_comprehension names name at over body = do
+  declared ← declared_element names no_slots name at over
+  block ← resolved_body declared.1 declared.2 [] body
   Ok (record { over = over; elements = block.1.elements; numbers = block.1.numbers; body = block.0; accesses = accesses_in block.1.accesses })

@@ -9,6 +9,7 @@ mod info;
 pub mod laws;
 mod names;
 mod resolution;
+mod statement;
 mod values;
 
 pub use info::FieldInfo;

@@ -27,3 +27,7 @@ resolved_field names accesses place found arg = do
   target ← element_of_kind field.1 place operand.0
   later ← with_access operand.1 (OfField field.0) Read place
   Ok (typed.Number (number.Field place field.0 target), later)
+
+abbrev pub with_names : {A N S F : Type 0} → Result A F → N → S → Result (A × N × S) F
+with_names (Ok value) names state = Ok (value, names, state)
+with_names (Err fault) names state = Err fault
