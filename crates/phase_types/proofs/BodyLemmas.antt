@@ -23,7 +23,7 @@ use Rattle.phase_types.specs.declared.resolution.TypedCode.TheVariants as typed
 use Rattle.phase_types.specs.Environments.{LocalName, Environment, Binding, ElementName, binding_of, is_built_in}
 use Rattle.phase_types.specs.Types.{ValueType, NumberType, TruthType, ElementType, type_of}
 use Rattle.phase_types.specs.Walk.{Step, OfField, OfScalar, mode_by, requirement, access_step, place_of, has_type, has_members, steps_of, typed_steps, name_requirement, with_val, environment_after, val_steps, field_target_steps, scalar_steps, name_target_steps, statement_steps, body_steps}
-use Rattle.phase_types.specs.Resolve.{◌>>=◌, fails, Names, resolution_of, new_name, Accesses, with_access, element_in, element_of_kind, element_with_set, resolved_expression, resolved_number, resolved_truth, resolved_element, Frame, with_accesses, with_element, element_name, assigned_field, with_reduction, resolved_assignment, resolved_field_assignment, declared_number, declared_element, resolved_statement, resolved_body}
+use Rattle.phase_types.specs.Resolve.{◌>>=◌, fails, Names, resolution_of, new_name, Accesses, with_access, element_in, element_of_kind, element_with_set, resolved_expression, resolved_number, resolved_truth, resolved_element, Frame, with_accesses, assigned_field, with_reduction, resolved_assignment, resolved_field_assignment, declared_number, declared_element, resolved_statement, resolved_body}
 use Rattle.phase_types.proofs.BindingLemmas.{equal_bytes}
 use Rattle.phase_types.proofs.WalkLemmas.{walk, Walks, in_turn, regrouped, made, IsAny, accessed}
 use Rattle.phase_types.proofs.ResolveLemmas.{binding_in, Agrees, type_in, accesses_with, after_typed, kind_checked, walks, number_walks, truth_walks}

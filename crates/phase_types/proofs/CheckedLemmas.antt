@@ -21,7 +21,7 @@ use Rattle.phase_types.specs.Checked.{items_of_item, item_count, MainState, buil
 use Rattle.phase_types.specs.Environments.{Environment, Binding, FieldName, ScalarName, ElementName, binding_of, first_declared, Comprehension, Part, ScopePart, field_part, scalar_part, comprehension_part, scope_part, fields_in, scalars_in, comprehensions_in, scopes_in, Site, start, with_field, with_scalar, comprehension_at, with_comprehension, block_start, after_block, has_else_block, after_item, after_main}
 use Rattle.phase_types.specs.Resolve.{◌>>=◌, Frame, declared_element, Names, resolution_of, new_name, Accesses, accesses_in, no_slots, with_element, element_name, resolved_number, resolved_truth, resolved_body, resolved_comprehension}
 use Rattle.phase_types.specs.Types.{NumberType, TruthType}
-use Rattle.phase_types.specs.Walk.{Subject, OfField, OfScalar, Step, TestStep, AccessStep, access_of, mode_in, typed_steps, name_requirement, body_steps, steps_in, faults_in_steps, faults_in_main, main_target_steps, faults_in_item, faults_in_items, check_fault}
+use Rattle.phase_types.specs.Walk.{Subject, OfField, OfScalar, Step, TestStep, AccessStep, access_of, mode_in, typed_steps, name_requirement, body_steps, faults_in_steps, faults_in_main, main_target_steps, faults_in_item, faults_in_items, check_fault}
 use Rattle.phase_types.specs.Typed.{IsTyped}
 use Rattle.phase_types.proofs.FaultLemmas.{no_fault, is_typed}
 use Rattle.phase_types.proofs.BodyLemmas.{after_body, declared, new_walks, body_walks}

@@ -1,5 +1,5 @@
 -- A table by names as the list of the names with what they denote.
-use Rattle.std.proofs.Common.{◌≡◌, ℕ, zero, suc, Bool, true, false, cond, List, [], ◌∷◌, ◌++◌, map, take, refl, sym, ap, subst, ◌∙◌}
+use Rattle.std.proofs.Common.{◌≡◌, ℕ, zero, suc, Bool, true, false, cond, List, [], ◌∷◌, ◌++◌, map, take, refl, ap}
 use Rattle.std.specs.List.{find}
 use Rattle.std.specs.Map as table
 use Rattle.std.specs.Option.{option_map}

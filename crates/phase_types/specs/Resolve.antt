@@ -47,7 +47,7 @@ use Rattle.phase_types.specs.declared.resolution.TypedCode.{TypedCode}
 use Rattle.phase_types.specs.declared.resolution.TypedCode.TheVariants as typed
 use Rattle.phase_types.specs.Environments.{lookup, is_built_in}
 use Rattle.phase_types.specs.Types.{are_towards_kinds, is_sameness}
-use Rattle.phase_types.specs.Walk.{Subject, OfField, OfScalar, is_subject, AccessAt, is_mode, mode_by, fault_at, place_of}
+use Rattle.phase_types.specs.Walk.{Subject, OfField, OfScalar, AccessAt, is_mode, mode_by, fault_at, place_of}
 
 -- the second step, if the first has no fault
 infixl 10 ◌>>=◌
@@ -351,18 +351,24 @@ declared_element names frame name at kind = do
   new ← new_name (resolution_of names name) at
   Ok (length frame.elements, names ++ element_name name kind frame ∷ [], with_element kind frame)
 
+abbrev pub resolved_var : Names → Frame → List ℕ → Place → Expression → Result (StatementCode × Names × Frame) ProgramFault
+resolved_var names frame name at init = do
+  value ← resolved_number names frame.accesses init
+  declared ← declared_number names (with_accesses value.1 frame) name at
+  Ok (code.Var declared.0 value.0, declared.1, declared.2)
+
+abbrev pub resolved_val : Names → Frame → List ℕ → Place → Expression → Result (StatementCode × Names × Frame) ProgramFault
+resolved_val names frame name at init = do
+  value ← resolved_element names frame.accesses init
+  declared ← declared_element names (with_accesses value.1 frame) name at value.0.0
+  Ok (code.Val declared.0 value.0.1, declared.1, declared.2)
+
 -- STATEMENTS, with the names and the frame at entry and those after them. Of a body the statements so far are given; its names end
 -- with it.
 abbrev mutual
   pub resolved_statement : Names → Frame → Statement → Result (StatementCode × Names × Frame) ProgramFault
-  resolved_statement names frame (Var place name at init) = do
-    value ← resolved_number names frame.accesses init
-    declared ← declared_number names (with_accesses value.1 frame) name at
-    Ok (code.Var declared.0 value.0, declared.1, declared.2)
-  resolved_statement names frame (Val place name at init) = do
-    value ← resolved_element names frame.accesses init
-    declared ← declared_element names (with_accesses value.1 frame) name at value.0.0
-    Ok (code.Val declared.0 value.0.1, declared.1, declared.2)
+  resolved_statement names frame (Var place name at init) = resolved_var names frame name at init
+  resolved_statement names frame (Val place name at init) = resolved_val names frame name at init
   resolved_statement names frame (Assign place name (Some target) how value) = do
     assignment ← resolved_field_assignment names frame place how target value (resolution_of names name)
     Ok (assignment.0, names, assignment.1)

@@ -1,6 +1,6 @@
 -- The walk through a program, its accesses, and its first fault. This project's own; that a field has one mode in a comprehension
 -- is the Liszt paper's (DeVito et al., Supercomputing 2011).
-use Rattle.std.specs.Prelude.{ℕ, ◌==◌, not, Bool, true, false, if◌then◌else◌, Option, Some, None, is_some, List, [], ◌∷◌, ◌++◌, map}
+use Rattle.std.specs.Prelude.{ℕ, not, Bool, true, false, if◌then◌else◌, Option, Some, None, is_some, List, [], ◌∷◌, ◌++◌, map}
 use Rattle.std.specs.List.{find, filter, filter_map, list_any}
 use Rattle.std.specs.Option.{option_and_then, option_map}
 use Rattle.liszt_base.specs.Kinds.{has_set, kind_of}

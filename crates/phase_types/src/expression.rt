@@ -10,14 +10,13 @@ ghost use Rattle.phase_types.specs.Walk as Walk;
 use crate::names::Names;
 use crate::resolution::{ChainCode, Resolution, TypedCode};
 use crate::values::{
-    Resolved, called_code, comparison_code, element_in, element_of_kind, extended_chain, fails,
-    first_of_chain, boxed, is_same_mode, named_field, number_in, towards_code, truth_in, whole_chain,
+    Resolved, boxed, called_code, comparison_code, element_in, element_of_kind, extended_chain,
+    fails, first_of_chain, is_same_mode, named_field, number_in, towards_code, truth_in,
+    whole_chain,
 };
 use liszt_base::{Kind, Mode, Place, ProgramFault, ProgramWhat, Refused};
 use liszt_tree::{Expr, Link};
-use resolved_code::{
-    AccessAt, ElementCode, FirstAccesses, NumberCode, Subject, TruthCode,
-};
+use resolved_code::{AccessAt, ElementCode, FirstAccesses, NumberCode, Subject, TruthCode};
 use std::alloc::Global;
 
 /// The place of an expression.

@@ -47,7 +47,12 @@ impl Names {
     }
 
     /// Declares a new name.
-    pub fn declare(&mut self, alloc: Global, name: &[u8], denoted: Resolution) -> Result<(), NoMemory>
+    pub fn declare(
+        &mut self,
+        alloc: Global,
+        name: &[u8],
+        denoted: Resolution,
+    ) -> Result<(), NoMemory>
         requires { resolution_of self.old name.now ≡ None }
         ensures { OnOk result (self.new ≡ self.old ++ (name.now, denoted) ∷ []) }
     {

@@ -3,7 +3,7 @@
 ghost use Rattle.std.specs.Prelude.{◌≡◌, ◌∷◌, ◌++◌, [], OnOk, length, map, take};
 ghost use Rattle.liszt_base.specs.Gives.{Gives};
 ghost use Rattle.liszt_tree.specs.Tree.{expression, body_of, statement_tree};
-ghost use Rattle.phase_types.specs.Internal.Results.{paired, state_of, with_names};
+ghost use Rattle.phase_types.specs.Internal.Results.{comprehension_code, members_code, paired, repetition_code, resolved_loop, state_of, with_names};
 ghost use Rattle.phase_types.specs.Resolve as Resolve;
 ghost use Rattle.phase_types.specs.Walk as Walk;
 
@@ -13,11 +13,12 @@ use crate::expression::{
 use crate::frame::Frame;
 use crate::names::Names;
 use crate::resolution::Resolution;
-use crate::values::{Resolved, element_of_kind, element_with_set, fails, kind_of, push};
+use crate::values::{Resolved, boxed, element_of_kind, element_with_set, fails, kind_of, push};
 use liszt_base::{Kind, Mode, Op, Place, ProgramWhat, Refused, SetName};
 use liszt_tree::{Expr, How, Stmt};
 use resolved_code::{
-    ComprehensionCode, FirstAccesses, StatementCode, StatementCodes, Subject,
+    ComprehensionCode, ElementCode, FirstAccesses, StatementCode, StatementCodes, Subject,
+    TruthCode,
 };
 use sqlite_items::Items;
 use std::alloc::Global;
@@ -172,7 +173,12 @@ fn resolve_field_assignment(
     let (field, kind) = assigned_field(place, found)?;
     let operand = resolve_expression(alloc, names, &mut frame.accesses, target)?;
     let target = element_of_kind(kind, place, operand)?;
-    note_access(&mut frame.accesses, Subject::Field(field), mode_by(how), place)?;
+    note_access(
+        &mut frame.accesses,
+        Subject::Field(field),
+        mode_by(how),
+        place,
+    )?;
     let value = resolve_number(alloc, names, &mut frame.accesses, value)?;
     Ok(StatementCode::Field {
         place,
@@ -183,3 +189,254 @@ fn resolve_field_assignment(
     })
 }
 
+/// The declaration of a local number.
+fn resolve_var(
+    alloc: Global,
+    names: &mut Names,
+    frame: &mut Frame,
+    name: &[u8],
+    at: Place,
+    init: &Expr,
+) -> Resolved<StatementCode>
+    ensures { Gives (Resolve.resolved_var names.old frame.old name.now at (expression init.now))
+        (with_names result names.new frame.new) }
+{
+    let init = resolve_number(alloc, names, &mut frame.accesses, init)?;
+    let slot = declare_number(alloc, names, frame, name, at)?;
+    Ok(StatementCode::Var { slot, init })
+}
+
+/// The declaration of an element.
+fn resolve_val(
+    alloc: Global,
+    names: &mut Names,
+    frame: &mut Frame,
+    name: &[u8],
+    at: Place,
+    init: &Expr,
+) -> Resolved<StatementCode>
+    ensures { Gives (Resolve.resolved_val names.old frame.old name.now at (expression init.now))
+        (with_names result names.new frame.new) }
+{
+    let (kind, init) = resolve_element(alloc, names, &mut frame.accesses, init)?;
+    let slot = declare_element(alloc, names, frame, name, at, kind)?;
+    Ok(StatementCode::Val { slot, init })
+}
+
+/// A statement. Its names are added to the visible ones.
+#[cycle(body)]
+fn resolve_statement(
+    alloc: Global,
+    names: &mut Names,
+    frame: &mut Frame,
+    s: &Stmt,
+) -> Resolved<StatementCode>
+    ensures { Gives (Resolve.resolved_statement names.old frame.old (statement_tree s.now))
+        (with_names result names.new frame.new) }
+{
+    match s {
+        Stmt::Var { name, at, init, .. } => {
+            resolve_var(alloc, names, frame, name.as_slice(), *at, init)
+        }
+        Stmt::Val { name, at, init, .. } => {
+            resolve_val(alloc, names, frame, name.as_slice(), *at, init)
+        }
+        Stmt::Assign {
+            place,
+            name,
+            target: Some(target),
+            how,
+            value,
+        } => {
+            let found = names.resolution(name.as_slice());
+            resolve_field_assignment(alloc, names, frame, *place, *how, target, value, found)
+        }
+        Stmt::Assign {
+            place,
+            name,
+            target: None,
+            how,
+            value,
+        } => {
+            let found = names.resolution(name.as_slice());
+            resolve_assignment(alloc, names, frame, *place, *how, value, found)
+        }
+        Stmt::If { test, yes, no, .. } => {
+            let test = resolve_truth(alloc, names, &mut frame.accesses, test)?;
+            let test = boxed(alloc, test)?;
+            let first = resolve_body(alloc, names, frame, yes.as_slice())?;
+            let second = resolve_body(alloc, names, frame, no.as_slice())?;
+            Ok(StatementCode::If {
+                test: test.into_inner(),
+                first,
+                second,
+            })
+        }
+        Stmt::While { place, test, body } => {
+            let test = resolve_truth(alloc, names, &mut frame.accesses, test)?;
+            resolve_repetition(alloc, names, frame, *place, body.as_slice(), test)
+        }
+        Stmt::For {
+            name,
+            at,
+            set,
+            set_at,
+            arg,
+            body,
+            ..
+        } => {
+            let operand = resolve_expression(alloc, names, &mut frame.accesses, arg)?;
+            let arg = element_with_set(*set, *set_at, operand)?;
+            resolve_members(
+                alloc,
+                names,
+                frame,
+                name.as_slice(),
+                *at,
+                *set,
+                *set_at,
+                body.as_slice(),
+                arg,
+            )
+        }
+    }
+}
+
+/// A block with an element of its own, whose slot is returned with the statements.
+#[cycle(body)]
+fn resolve_loop(
+    alloc: Global,
+    names: &mut Names,
+    frame: &mut Frame,
+    name: &[u8],
+    at: Place,
+    kind: Kind,
+    body: &[Stmt],
+) -> Resolved<(u32, StatementCodes)>
+    ensures gives { Gives (resolved_loop names.old frame.old name.now at kind
+        (body_of (map statement_tree body.now))) (paired result frame.new) }
+    ensures names { OnOk result (names.new ≡ names.old) }
+{
+    let depth = names.len();
+    let slot = declare_element(alloc, names, frame, name, at, kind)?;
+    let body = resolve_body(alloc, names, frame, body)?;
+    names.truncate(depth);
+    Ok((slot, body))
+}
+
+/// A `while` of a resolved test.
+#[cycle(body)]
+fn resolve_repetition(
+    alloc: Global,
+    names: &mut Names,
+    frame: &mut Frame,
+    place: Place,
+    body: &[Stmt],
+    test: TruthCode,
+) -> Resolved<StatementCode>
+    ensures { Gives (repetition_code names.old frame.old place test
+        (body_of (map statement_tree body.now))) (with_names result names.new frame.new) }
+{
+    match resolve_body(alloc, names, frame, body) {
+        Ok(body) => Ok(StatementCode::While { place, test, body }),
+        Err(refused) => Err(refused),
+    }
+}
+
+/// A loop over a set of a resolved element.
+#[cycle(body)]
+fn resolve_members(
+    alloc: Global,
+    names: &mut Names,
+    frame: &mut Frame,
+    name: &[u8],
+    at: Place,
+    set: SetName,
+    set_at: Place,
+    body: &[Stmt],
+    arg: ElementCode,
+) -> Resolved<StatementCode>
+    ensures { Gives (members_code names.old frame.old name.now at set set_at arg
+        (body_of (map statement_tree body.now))) (with_names result names.new frame.new) }
+{
+    match resolve_loop(alloc, names, frame, name, at, kind_of(set), body) {
+        Ok((slot, body)) => Ok(StatementCode::For {
+            slot,
+            set,
+            place: set_at,
+            arg,
+            body,
+        }),
+        Err(refused) => Err(refused),
+    }
+}
+
+/// The statements of a body, or of a block in it. Its names end with it.
+#[cycle(body)]
+fn resolve_body(
+    alloc: Global,
+    names: &mut Names,
+    frame: &mut Frame,
+    body: &[Stmt],
+) -> Resolved<StatementCodes>
+    ensures gives { Gives (Resolve.resolved_body names.old frame.old []
+        (body_of (map statement_tree body.now))) (paired result frame.new) }
+    ensures names { OnOk result (names.new ≡ names.old) }
+{
+    let depth = names.len();
+    let mut done = Items::new(alloc);
+    for s in body {
+        let code = resolve_statement(alloc, names, frame, s)?;
+        push(&mut done, code)?;
+    }
+    names.truncate(depth);
+    Ok(done)
+}
+
+/// A comprehension over the elements of a kind, whose own element has this name.
+pub fn resolve_comprehension(
+    alloc: Global,
+    names: &mut Names,
+    name: &[u8],
+    at: Place,
+    over: Kind,
+    body: &[Stmt],
+) -> Resolved<ComprehensionCode>
+    ensures gives { Gives (Resolve.resolved_comprehension names.old name.now at over
+        (body_of (map statement_tree body.now))) result }
+    ensures names { OnOk result (names.new ≡ names.old) }
+{
+    let mut frame = Frame {
+        numbers: 0,
+        elements: Items::new(alloc),
+        accesses: Some(FirstAccesses::new(alloc)),
+    };
+    let (_, body) = resolve_loop(alloc, names, &mut frame, name, at, over, body)?;
+    Ok(comprehension_of(alloc, over, frame, body))
+}
+
+/// The comprehension of a whole frame and its body.
+fn comprehension_of(
+    alloc: Global,
+    over: Kind,
+    frame: Frame,
+    body: StatementCodes,
+) -> ComprehensionCode
+    ensures { result ≡ comprehension_code over frame body }
+{
+    let Frame {
+        numbers,
+        elements,
+        accesses,
+    } = frame;
+    ComprehensionCode {
+        over,
+        elements,
+        numbers,
+        body,
+        accesses: match accesses {
+            Some(accesses) => accesses,
+            None => FirstAccesses::new(alloc),
+        },
+    }
+}

@@ -193,12 +193,7 @@ pub fn named_field(place: Place, found: Option<Resolution>) -> Resolved<(u32, Ki
 }
 
 /// A call of a function that gives an element.
-fn element_call(
-    alloc: Global,
-    kind: Kind,
-    fun: ElementFun,
-    arg: ElementCode,
-) -> Resolved<TypedCode>
+fn element_call(alloc: Global, kind: Kind, fun: ElementFun, arg: ElementCode) -> Resolved<TypedCode>
     ensures { Gives (Ok (Typed.Element kind (Element.Call fun arg))) result }
 {
     let arg = boxed(alloc, arg)?;
@@ -254,7 +249,11 @@ pub fn towards_code(
     let TypedCode::Element { kind, code: arg } = first else {
         return fails(ProgramWhat::TypeMismatch, place);
     };
-    let TypedCode::Element { kind: other, code: to } = second else {
+    let TypedCode::Element {
+        kind: other,
+        code: to,
+    } = second
+    else {
         return fails(ProgramWhat::TypeMismatch, place);
     };
     if !are_towards_kinds(kind, other) {
@@ -301,7 +300,11 @@ pub fn comparison_code(
             })
         }
         TypedCode::Element { kind, code: left } => {
-            let TypedCode::Element { kind: other, code: right } = second else {
+            let TypedCode::Element {
+                kind: other,
+                code: right,
+            } = second
+            else {
                 return fails(ProgramWhat::TypeMismatch, place);
             };
             if !(is_sameness(rel) && is_kind(kind, other)) {
@@ -399,11 +402,7 @@ fn longer_numbers(
 }
 
 /// A chain of truth values with a further operand.
-fn longer_truths(
-    first: TruthCode,
-    rest: Items<TruthLink>,
-    next: TruthLink,
-) -> Resolved<ChainCode>
+fn longer_truths(first: TruthCode, rest: Items<TruthLink>, next: TruthLink) -> Resolved<ChainCode>
     ensures { Gives (Ok (Chain.Truths first (rest ++ next ∷ []))) result }
 {
     let mut rest = rest;

@@ -1,5 +1,5 @@
-use Rattle.std.proofs.Common.{◌≡◌, rules}
-use Rattle.phase_types.proofs.LoopLemmas.{operand_stops, chain_stops, link_done, handed_on}
+use Rattle.std.proofs.Common.{rules}
+use Rattle.phase_types.proofs.LoopLemmas.{operand_stops, handed_on}
 use Rattle.phase_types.proofs.expression.+resolve.Goals as goal
 
 pub resolve_links-returns-in_err-operand : goal.resolve_links-returns-in_err-operand

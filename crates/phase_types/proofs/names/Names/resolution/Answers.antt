@@ -1,4 +1,4 @@
-use Rattle.std.proofs.Common.{◌≡◌, ap, ◌∙◌}
+use Rattle.std.proofs.Common.{ap, ◌∙◌}
 use Rattle.phase_types.specs.Resolve.{resolution_of}
 use Rattle.phase_types.proofs.NameLemmas.{found_name}
 use Rattle.phase_types.proofs.names.Names.resolution.Goals as goal

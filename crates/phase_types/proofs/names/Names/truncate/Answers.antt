@@ -1,4 +1,4 @@
-use Rattle.std.proofs.Common.{◌≡◌, ap, ◌∙◌, take}
+use Rattle.std.proofs.Common.{ap, ◌∙◌, take}
 use Rattle.phase_types.proofs.NameLemmas.{names_of, taken_names}
 use Rattle.phase_types.proofs.names.Names.truncate.Goals as goal
 
