@@ -9,6 +9,7 @@ mod info;
 pub mod laws;
 mod names;
 mod resolution;
+mod state;
 mod statement;
 mod values;
 
