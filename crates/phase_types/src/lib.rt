@@ -8,6 +8,7 @@ mod frame;
 mod info;
 pub mod laws;
 mod names;
+mod program;
 mod resolution;
 mod state;
 mod statement;

@@ -1,5 +1,5 @@
 -- What a function of the resolver answers, with the state that it leaves. This project's own.
-use Rattle.std.specs.Prelude.{ℕ, Option, List, [], Result, Ok, Err}
+use Rattle.std.specs.Prelude.{Bool, Some, None, ℕ, Option, List, [], Result, Ok, Err}
 use Rattle.liszt_base.specs.Kinds.{kind_of}
 use Rattle.liszt_base.specs.declared.elements.Kind.{Kind}
 use Rattle.liszt_base.specs.declared.elements.SetName.{SetName}
@@ -11,7 +11,12 @@ use Rattle.resolved_code.specs.declared.statements.StatementCode.TheVariants as 
 use Rattle.liszt_base.specs.declared.accesses.Mode.TheVariants.{Read}
 use Rattle.liszt_base.specs.declared.answers.Place.{Place}
 use Rattle.liszt_base.specs.declared.answers.ProgramFault.{ProgramFault}
-use Rattle.liszt_tree.specs.Tree.{Body, Expression}
+use Rattle.resolved_code.specs.declared.items.BlockCode.{BlockCode}
+use Rattle.resolved_code.specs.declared.items.ItemCode.{ItemCode}
+use Rattle.resolved_code.specs.declared.items.ItemCode.TheVariants as item
+use Rattle.phase_types.specs.Checked.{MainState, opens_block, closes_block, block_code, else_block, resolved_items}
+use Rattle.phase_types.specs.Environments.{has_else_block}
+use Rattle.liszt_tree.specs.Tree.{Main, Body, Expression}
 use Rattle.resolved_code.specs.declared.expressions.NumberCode.TheVariants as number
 use Rattle.phase_types.specs.declared.resolution.Resolution.{Resolution}
 use Rattle.phase_types.specs.declared.resolution.TypedCode.{TypedCode}
@@ -61,3 +66,19 @@ members_code names frame name at set set_at arg body = do
 abbrev pub comprehension_code : Kind → Frame → List StatementCode → ComprehensionCode
 comprehension_code over frame body =
     record { over = over; elements = frame.elements; numbers = frame.numbers; body = body; accesses = accesses_in frame.accesses }
+
+-- a block of the main program, and the block after `else`
+abbrev pub resolved_block : MainState → Main → Result (BlockCode × MainState) ProgramFault
+resolved_block state items = do
+  block ← resolved_items (opens_block state) [] items
+  Ok (block_code state block.0, closes_block state block.1)
+
+abbrev pub resolved_else : MainState → Main → Bool → Result (Option BlockCode × MainState) ProgramFault
+resolved_else state items has_else = else_block (has_else_block items has_else) state (resolved_items (opens_block state) [] items)
+
+-- an `if` and a `while` of a resolved test
+abbrev pub branches_code : MainState → TruthCode → Main → Main → Bool → Result (ItemCode × MainState) ProgramFault
+branches_code state test first second has_else = do
+  first_block ← resolved_block state first
+  second_block ← resolved_else first_block.1 second has_else
+  Ok (item.If test first_block.0 second_block.0, second_block.1)
