@@ -70,12 +70,7 @@ fn declare_field(
 }
 
 /// Declares a scalar, whose number is returned.
-fn declare_scalar(
-    alloc: Global,
-    state: &mut MainState,
-    name: &[u8],
-    at: Place,
-) -> Resolved<u32>
+fn declare_scalar(alloc: Global, state: &mut MainState, name: &[u8], at: Place) -> Resolved<u32>
     ensures { Gives (Checked.declared_scalar state.old name.now at) (paired result state.new) }
 {
     new_name(state.names.resolution(name), at)?;

@@ -1,5 +1,5 @@
 -- What a function of the resolver answers, with the state that it leaves. This project's own.
-use Rattle.std.specs.Prelude.{Bool, Some, None, ℕ, Option, List, [], Result, Ok, Err}
+use Rattle.std.specs.Prelude.{Bool, ℕ, Option, List, [], Result, Ok, Err}
 use Rattle.liszt_base.specs.Kinds.{kind_of}
 use Rattle.liszt_base.specs.declared.elements.Kind.{Kind}
 use Rattle.liszt_base.specs.declared.elements.SetName.{SetName}
