@@ -20,10 +20,10 @@ use Rattle.phase_types.specs.declared.resolution.Resolution.{Resolution}
 use Rattle.phase_types.specs.declared.resolution.Resolution.TheVariants as resolution
 use Rattle.phase_types.specs.declared.resolution.TypedCode.{TypedCode}
 use Rattle.phase_types.specs.declared.resolution.TypedCode.TheVariants as typed
-use Rattle.phase_types.specs.Environments.{Environment, Binding, ElementName, binding_of, is_built_in}
+use Rattle.phase_types.specs.Environments.{LocalName, Environment, Binding, ElementName, binding_of, is_built_in}
 use Rattle.phase_types.specs.Types.{ValueType, NumberType, TruthType, ElementType, type_of}
 use Rattle.phase_types.specs.Walk.{Step, OfField, OfScalar, mode_by, requirement, access_step, place_of, has_type, has_members, steps_of, typed_steps, name_requirement, with_val, environment_after, val_steps, field_target_steps, scalar_steps, name_target_steps, statement_steps, body_steps}
-use Rattle.phase_types.specs.Resolve.{◌>>=◌, fails, Names, resolution_of, new_name, Accesses, with_access, element_in, element_of_kind, element_with_set, resolved_expression, resolved_number, resolved_truth, resolved_element, Frame, with_accesses, with_element, element_name, assigned_field, with_reduction, resolved_assignment, resolved_statement, resolved_body}
+use Rattle.phase_types.specs.Resolve.{◌>>=◌, fails, Names, resolution_of, new_name, Accesses, with_access, element_in, element_of_kind, element_with_set, resolved_expression, resolved_number, resolved_truth, resolved_element, Frame, with_accesses, assigned_field, with_reduction, resolved_assignment, resolved_field_assignment, declared_number, declared_element, resolved_statement, resolved_body}
 use Rattle.phase_types.proofs.BindingLemmas.{equal_bytes}
 use Rattle.phase_types.proofs.WalkLemmas.{walk, Walks, in_turn, regrouped, made, IsAny, accessed}
 use Rattle.phase_types.proofs.ResolveLemmas.{binding_in, Agrees, type_in, accesses_with, after_typed, kind_checked, walks, number_walks, truth_walks}
@@ -136,11 +136,9 @@ module _ {names : Names} {environment : Environment} (agrees : Agrees names envi
       (λ later any. made (resolved_number names later value) _ (number_walks agrees later value) (λ v any. (refl, tt)))
 
   field_assignment_walks : (frame : Frame) (place : Place) (how : How) (target value : Expression) (found : Option Resolution)
-      → Walks after_statement (λ r. Agrees r.1 environment)
+      → Walks after_assignment IsAny
       (walk frame.accesses (field_target_steps place how (option_map binding_in found) (type_of environment target) (steps_of environment target) (typed_steps environment NumberType value)))
-      (assigned_field place found >>= λ field. resolved_expression names frame.accesses target >>= λ operand. element_of_kind field.1 place operand.0 >>= λ at_element.
-      with_access operand.1 (OfField field.0) (mode_by how) place >>= λ later. resolved_number names later value >>= λ new_value.
-      Ok (code.Field place field.0 how at_element new_value.0, names, with_accesses new_value.1 frame))
+      (resolved_field_assignment names frame place how target value found)
   field_assignment_walks frame place how target value None = record { same = refl }
   field_assignment_walks frame place how target value (Some (resolution.Scalar scalar)) = record { same = refl }
   field_assignment_walks frame place how target value (Some (resolution.Number slot)) = record { same = refl }
@@ -156,30 +154,44 @@ module _ {names : Names} {environment : Environment} (agrees : Agrees names envi
       (regrouped frame.accesses (free ++ steps) (of_kind type) (access ++ new_value)
       (regrouped frame.accesses free steps (of_kind type ++ (access ++ new_value))
       (in_turn frame.accesses free (steps ++ (of_kind type ++ (access ++ new_value))) (assigned_field place (Some (resolution.Field field kind))) _ (writable frame.accesses place (is_built_in field) field kind)
-      (λ x is. subst (λ (x : ℕ × Kind). Walks after_statement (λ r. Agrees r.1 environment) (walk frame.accesses (steps ++ (of_kind type ++ (access ++ new_value))))
+      (λ x is. subst (λ (x : ℕ × Kind). Walks after_assignment IsAny (walk frame.accesses (steps ++ (of_kind type ++ (access ++ new_value))))
       (resolved_expression names frame.accesses target >>= λ operand. element_of_kind x.1 place operand.0 >>= λ at_element. with_access operand.1 (OfField x.0) (mode_by how) place >>= λ later.
-      resolved_number names later value >>= λ new_value. Ok (code.Field place x.0 how at_element new_value.0, names, with_accesses new_value.1 frame))) (sym is)
-      (after_typed (λ type r. Agrees r.1 environment) (λ type. of_kind type ++ (access ++ new_value)) frame.accesses steps type (resolved_expression names frame.accesses target) _ (walks agrees frame.accesses target)
+      resolved_number names later value >>= λ new_value. Ok (code.Field place x.0 how at_element new_value.0, with_accesses new_value.1 frame))) (sym is)
+      (after_typed (λ type r. IsAny r) (λ type. of_kind type ++ (access ++ new_value)) frame.accesses steps type (resolved_expression names frame.accesses target) _ (walks agrees frame.accesses target)
       (λ v. in_turn v.1 (of_kind (Some (type_in v.0))) (access ++ new_value) (element_of_kind kind place v.0) _ (kind_checked v.1 kind place v.0)
       (λ at_element e. in_turn v.1 access new_value (with_access v.1 (OfField field) (mode_by how) place) _ (accessed v.1 (OfField field) (mode_by how) place)
-      (λ later any. made (resolved_number names later value) _ (number_walks agrees later value) (λ w any. (refl, agrees))))))))))
+      (λ later any. made (resolved_number names later value) _ (number_walks agrees later value) (λ w any. (refl, tt))))))))))
+
+abbrev pub after_declaration : ℕ × Names × Frame → Accesses
+after_declaration d = d.2.accesses
+
+pub number_declared : {names : Names} {environment : Environment} → Agrees names environment → (frame : Frame) (name : List ℕ) (at : Place)
+    → Walks after_declaration (λ d. Agrees d.1 ((name, LocalName) ∷ environment)) (walk frame.accesses (name_requirement environment name at)) (declared_number names frame name at)
+number_declared {names = names} agrees frame name at =
+    made (new_name (resolution_of names name) at) _ (new_walks agrees frame.accesses name at) (λ u new. (refl, declared name (resolution.Number frame.numbers) agrees new))
+
+pub element_declared : {names : Names} {environment : Environment} → Agrees names environment → (frame : Frame) (name : List ℕ) (at : Place) (kind : Kind)
+    → Walks after_declaration (λ d. Agrees d.1 ((name, ElementName kind) ∷ environment)) (walk frame.accesses (name_requirement environment name at)) (declared_element names frame name at kind)
+element_declared {names = names} agrees frame name at kind =
+    made (new_name (resolution_of names name) at) _ (new_walks agrees frame.accesses name at) (λ u new. (refl, declared name (resolution.Element (length frame.elements) kind) agrees new))
 
 mutual
   pub statement_walks : {names : Names} {environment : Environment} → Agrees names environment → (frame : Frame) (s : Statement)
       → Walks after_statement (λ r. Agrees r.1 (environment_after environment s)) (walk frame.accesses (statement_steps environment s)) (resolved_statement names frame s)
   statement_walks {names = names} {environment = environment} agrees frame (Var place name at init) =
       in_turn frame.accesses (typed_steps environment NumberType init) (name_requirement environment name at) (resolved_number names frame.accesses init) _ (number_walks agrees frame.accesses init)
-      (λ v any. made (new_name (resolution_of names name) at) _ (new_walks agrees v.1 name at) (λ u new. (refl, declared name (resolution.Number frame.numbers) agrees new)))
+      (λ v any. made (declared_number names (with_accesses v.1 frame) name at) _ (number_declared agrees (with_accesses v.1 frame) name at) (λ d after. (refl, after)))
   statement_walks {names = names} {environment = environment} agrees frame (Val place name at init) =
       in_turn frame.accesses (steps_of environment init ++ val_steps (type_of environment init) (place_of init)) (name_requirement environment name at) (resolved_element names frame.accesses init) _
       (element_walks agrees frame.accesses init)
-      (λ v is. made (new_name (resolution_of names name) at) _ (new_walks agrees v.1 name at)
-      (λ u new. (refl, subst (λ type. Agrees (names ++ element_name name v.0.0 frame ∷ []) (with_val name type environment)) (sym is) (declared name (resolution.Element (length frame.elements) v.0.0) agrees new))))
+      (λ v is. made (declared_element names (with_accesses v.1 frame) name at v.0.0) _ (element_declared agrees (with_accesses v.1 frame) name at v.0.0)
+      (λ d after. (refl, subst (λ type. Agrees d.1 (with_val name type environment)) (sym is) after)))
   statement_walks {names = names} {environment = environment} agrees frame (Assign place name (Some target) how value) =
-      subst (λ found. Walks after_statement (λ r. Agrees r.1 environment)
+      made (resolved_field_assignment names frame place how target value (resolution_of names name)) _
+      (subst (λ found. Walks after_assignment IsAny
       (walk frame.accesses (field_target_steps place how found (type_of environment target) (steps_of environment target) (typed_steps environment NumberType value)))
-      (resolved_statement names frame (Assign place name (Some target) how value))) (agrees.each name)
-      (field_assignment_walks agrees frame place how target value (resolution_of names name))
+      (resolved_field_assignment names frame place how target value (resolution_of names name))) (agrees.each name)
+      (field_assignment_walks agrees frame place how target value (resolution_of names name))) (λ r any. (refl, agrees))
   statement_walks {names = names} {environment = environment} agrees frame (Assign place name None how value) =
       made (resolved_assignment names frame place how value (resolution_of names name)) _
       (subst (λ found. Walks after_assignment IsAny (walk frame.accesses (name_target_steps place how found (typed_steps environment NumberType value))) (resolved_assignment names frame place how value (resolution_of names name)))
@@ -202,9 +214,8 @@ mutual
       (regrouped frame.accesses steps (has type) (new ++ inner)
       (after_typed (λ type r. Agrees r.1 environment) (λ type. has type ++ (new ++ inner)) frame.accesses steps type (resolved_expression names frame.accesses arg) _ (walks agrees frame.accesses arg)
       (λ v. in_turn v.1 (has (Some (type_in v.0))) (new ++ inner) (element_with_set set set_at v.0) _ (members_checked v.1 set set_at v.0)
-      (λ origin any. in_turn v.1 new inner (new_name (resolution_of names name) at) _ (new_walks agrees v.1 name at)
-      (λ u is_new. made (resolved_body (names ++ element_name name (kind_of set) frame ∷ []) (with_element (kind_of set) v.1 frame) [] body) _
-      (body_walks (declared name (resolution.Element (length frame.elements) (kind_of set)) agrees is_new) (with_element (kind_of set) v.1 frame) [] body) (λ b any. (refl, agrees)))))))
+      (λ origin any. in_turn v.1 new inner (declared_element names (with_accesses v.1 frame) name at (kind_of set)) _ (element_declared agrees (with_accesses v.1 frame) name at (kind_of set))
+      (λ d after. made (resolved_body d.1 d.2 [] body) _ (body_walks after d.2 [] body) (λ b any. (refl, agrees)))))))
 
   pub body_walks : {names : Names} {environment : Environment} → Agrees names environment → (frame : Frame) (done : List StatementCode) (body : Body)
       → Walks after_body IsAny (walk frame.accesses (body_steps environment body)) (resolved_body names frame done body)

@@ -17,14 +17,14 @@ use Rattle.resolved_code.specs.declared.items.ItemCode.{ItemCode}
 use Rattle.resolved_code.specs.declared.items.ItemCode.TheVariants as code
 use Rattle.phase_types.specs.declared.resolution.Resolution.{Resolution}
 use Rattle.phase_types.specs.declared.resolution.Resolution.TheVariants as resolution
-use Rattle.phase_types.specs.Checked.{items_of_item, item_count, MainState, built_in_names, first_state, declares_field, declares_scalar, with_comprehension_code, opens_block, closes_block, assigned_scalar, block_code, else_block, resolved_item, resolved_items, CheckedProgram, checked_program, access_mode, HasPartsOf, IsWithin}
+use Rattle.phase_types.specs.Checked.{main_number, main_truth, declared_field, declared_scalar, items_of_item, item_count, MainState, built_in_names, first_state, declares_field, declares_scalar, with_comprehension_code, opens_block, closes_block, assigned_scalar, block_code, else_block, resolved_item, resolved_items, CheckedProgram, checked_program, access_mode, HasPartsOf, IsWithin}
 use Rattle.phase_types.specs.Environments.{Environment, Binding, FieldName, ScalarName, ElementName, binding_of, first_declared, Comprehension, Part, ScopePart, field_part, scalar_part, comprehension_part, scope_part, fields_in, scalars_in, comprehensions_in, scopes_in, Site, start, with_field, with_scalar, comprehension_at, with_comprehension, block_start, after_block, has_else_block, after_item, after_main}
-use Rattle.phase_types.specs.Resolve.{◌>>=◌, Names, resolution_of, new_name, Accesses, accesses_in, no_slots, with_element, element_name, resolved_number, resolved_truth, resolved_body, resolved_comprehension}
+use Rattle.phase_types.specs.Resolve.{◌>>=◌, Frame, declared_element, Names, resolution_of, new_name, Accesses, accesses_in, no_slots, with_element, element_name, resolved_number, resolved_truth, resolved_body, resolved_comprehension}
 use Rattle.phase_types.specs.Types.{NumberType, TruthType}
-use Rattle.phase_types.specs.Walk.{Subject, OfField, OfScalar, Step, TestStep, AccessStep, access_of, mode_in, typed_steps, name_requirement, body_steps, steps_in, faults_in_steps, faults_in_main, main_target_steps, faults_in_item, faults_in_items, check_fault}
+use Rattle.phase_types.specs.Walk.{Subject, OfField, OfScalar, Step, TestStep, AccessStep, access_of, mode_in, typed_steps, name_requirement, body_steps, faults_in_steps, faults_in_main, main_target_steps, faults_in_item, faults_in_items, check_fault}
 use Rattle.phase_types.specs.Typed.{IsTyped}
 use Rattle.phase_types.proofs.FaultLemmas.{no_fault, is_typed}
-use Rattle.phase_types.proofs.BodyLemmas.{declared, new_walks, body_walks}
+use Rattle.phase_types.proofs.BodyLemmas.{after_body, declared, new_walks, body_walks}
 use Rattle.phase_types.proofs.ConflictLemmas.{first_fault, Summarizes, no_accesses, WalksSteps, walks_steps, by_fault, main_walk}
 use Rattle.phase_types.proofs.ResolveLemmas.{binding_in, Agrees, number_walks, truth_walks}
 use Rattle.phase_types.proofs.WalkLemmas.{walk, Walks, IsAny}
@@ -96,15 +96,27 @@ codes_append (x ∷ cs) (y ∷ comprehensions) c comprehension h g = (h.0, codes
 codes_append [] (y ∷ comprehensions) c comprehension h g = absurd h
 codes_append (x ∷ cs) [] c comprehension h g = absurd h
 
-comprehension_found : {names : Names} {environment : Environment} → Agrees names environment → (name : List ℕ) (over : Kind) (body : Body) → resolution_of names name ≡ None
-    → Finds (faults_in_steps [] (body_steps ((name, ElementName over) ∷ environment) body))
-    (λ c. IsCodeOf c (record { environment = environment; name = name; over = over; body = body })) (resolved_comprehension names name over body)
-comprehension_found {names = names} {environment = environment} agrees name over body new =
+name_found : {names : Names} {environment : Environment} → Agrees names environment → (name : List ℕ) (at : Place)
+    → Finds (faults_in_main (name_requirement environment name at)) (λ u. resolution_of names name ≡ None) (new_name (resolution_of names name) at)
+name_found {names = names} {environment = environment} agrees name at =
+    found_main {s = λ (u : Unit {0}). None} (name_requirement environment name at) (new_name (resolution_of names name) at) (new_walks agrees None name at)
+
+comprehension_found : {names : Names} {environment : Environment} → Agrees names environment → (name : List ℕ) (at : Place) (over : Kind) (body : Body)
+    → Finds (faults_in_main (name_requirement environment name at) ++ faults_in_steps [] (body_steps ((name, ElementName over) ∷ environment) body))
+    (λ c. IsCodeOf c (record { environment = environment; name = name; over = over; body = body })) (resolved_comprehension names name at over body)
+comprehension_found {names = names} {environment = environment} agrees name at over body =
     let steps : List Step = body_steps ((name, ElementName over) ∷ environment) body in
-    let block : _ = resolved_body (names ++ element_name name over no_slots ∷ []) (with_element over (Some []) no_slots) [] body in
-    found_made block _
-    (found_steps steps (walk (Some []) steps) block (body_walks (declared name (resolution.Element 0 over) agrees new) (with_element over (Some []) no_slots) [] body) (walks_steps steps [] [] no_accesses))
-    (λ b h. record { over = refl; modes = λ subject. ap (option_map (λ access. access.mode)) (h.found subject) })
+    found_both {P = λ (d : ℕ × Names × Frame). Agrees d.1 ((name, ElementName over) ∷ environment) × (d.2.accesses ≡ Some [])}
+    (faults_in_main (name_requirement environment name at)) (faults_in_steps [] steps) (declared_element names no_slots name at over) _
+    (found_made (new_name (resolution_of names name) at) _ (name_found agrees name at) (λ u new. new_element agrees name over new))
+    (λ d h. found_made (resolved_body d.1 d.2 [] body) _
+    (found_steps steps (walk (Some []) steps) (resolved_body d.1 d.2 [] body) (subst (λ accesses. Walks after_body IsAny (walk accesses steps) (resolved_body d.1 d.2 [] body)) (h.1) (body_walks (h.0) d.2 [] body))
+    (walks_steps steps [] [] no_accesses))
+    (λ b h. record { over = refl; modes = λ subject. ap (option_map (λ access. access.mode)) (h.found subject) }))
+  where
+    new_element : {names : Names} {environment : Environment} → Agrees names environment → (name : List ℕ) (over : Kind) → resolution_of names name ≡ None
+        → Agrees (names ++ element_name name over no_slots ∷ []) ((name, ElementName over) ∷ environment) × ((with_element over no_slots).accesses ≡ Some [])
+    new_element agrees name over new = (declared name (resolution.Element 0 over) agrees new, refl)
 
 -- THE MAIN PROGRAM so far has the names, the scope and the parts of its site
 pub record Follows (state : MainState) (site : Site) : Type 0 where
@@ -177,35 +189,32 @@ main_append (x ∷ xs) ys = ap (λ faults. fault_of x ∷ faults) (main_append x
   fault_of (TestStep fault) = fault
   fault_of (AccessStep access) = None
 
-value_found : {names : Names} {environment : Environment} → Agrees names environment → (e : Expression) → Finds (faults_in_main (typed_steps environment NumberType e)) IsAny (resolved_number names None e)
-value_found {names = names} {environment = environment} agrees e = found_main (typed_steps environment NumberType e) (resolved_number names None e) (number_walks agrees None e)
+value_found : {names : Names} {environment : Environment} → Agrees names environment → (e : Expression) → Finds (faults_in_main (typed_steps environment NumberType e)) IsAny (main_number names e)
+value_found {names = names} {environment = environment} agrees e =
+    found_made (resolved_number names None e) _ (found_main (typed_steps environment NumberType e) (resolved_number names None e) (number_walks agrees None e)) (λ v any. tt)
 
-test_found : {names : Names} {environment : Environment} → Agrees names environment → (e : Expression) → Finds (faults_in_main (typed_steps environment TruthType e)) IsAny (resolved_truth names None e)
-test_found {names = names} {environment = environment} agrees e = found_main (typed_steps environment TruthType e) (resolved_truth names None e) (truth_walks agrees None e)
+test_found : {names : Names} {environment : Environment} → Agrees names environment → (e : Expression) → Finds (faults_in_main (typed_steps environment TruthType e)) IsAny (main_truth names e)
+test_found {names = names} {environment = environment} agrees e =
+    found_made (resolved_truth names None e) _ (found_main (typed_steps environment TruthType e) (resolved_truth names None e) (truth_walks agrees None e)) (λ v any. tt)
 
-name_found : {names : Names} {environment : Environment} → Agrees names environment → (name : List ℕ) (at : Place)
-    → Finds (faults_in_main (name_requirement environment name at)) (λ u. resolution_of names name ≡ None) (new_name (resolution_of names name) at)
-name_found {names = names} {environment = environment} agrees name at =
-    found_main {s = λ (u : Unit {0}). None} (name_requirement environment name at) (new_name (resolution_of names name) at) (new_walks agrees None name at)
-
-declaration_found : {state next : MainState} {site after_site : Site} → Follows state site → (name : List ℕ) (at : Place) (init : Expression) (f : NumberCode × Accesses → ItemCode)
-    → (resolution_of state.names name ≡ None → Follows next after_site)
+declaration_found : {state : MainState} {site after_site : Site} → Follows state site → (name : List ℕ) (at : Place) (init : Expression) (declaration : Result (ℕ × MainState) ProgramFault)
+    (f : NumberCode → ℕ → ItemCode) → Finds (faults_in_main (name_requirement site.environment name at)) (λ d. Follows d.1 after_site) declaration
     → Finds (faults_in_main (typed_steps site.environment NumberType init ++ name_requirement site.environment name at)) (λ (r : ItemCode × MainState). Follows r.1 after_site)
-    (resolved_number state.names None init >>= λ value. new_name (resolution_of state.names name) at >>= λ new. Ok (f value, next))
-declaration_found {state = state} {next = next} {site = site} {after_site = after_site} h name at init f g =
-    subst (λ faults. Finds faults (λ (r : ItemCode × MainState). Follows r.1 after_site) (resolved_number state.names None init >>= λ value. new_name (resolution_of state.names name) at >>= λ new. Ok (f value, next)))
+    (main_number state.names init >>= λ value. declaration >>= λ d. Ok (f value d.0, d.1))
+declaration_found {state = state} {site = site} {after_site = after_site} h name at init declaration f g =
+    subst (λ faults. Finds faults (λ (r : ItemCode × MainState). Follows r.1 after_site) (main_number state.names init >>= λ value. declaration >>= λ d. Ok (f value d.0, d.1)))
     (sym (main_append (typed_steps site.environment NumberType init) (name_requirement site.environment name at)))
-    (found_both (faults_in_main (typed_steps site.environment NumberType init)) (faults_in_main (name_requirement site.environment name at)) (resolved_number state.names None init) _ (value_found h.agrees init)
-    (λ value any. found_made (new_name (resolution_of state.names name) at) _ (name_found h.agrees name at) (λ u new. g new)))
+    (found_both (faults_in_main (typed_steps site.environment NumberType init)) (faults_in_main (name_requirement site.environment name at)) (main_number state.names init) _ (value_found h.agrees init)
+    (λ value any. found_made declaration _ g (λ d follows. follows)))
 
 assigned_found : {state : MainState} {site : Site} → Follows state site → (place : Place) (how : How) (value : Expression) (found : Option Resolution)
     → Finds (faults_in_main (main_target_steps place (option_map binding_in found) (typed_steps site.environment NumberType value))) (λ (r : ItemCode × MainState). Follows r.1 site)
-    (assigned_scalar place found >>= λ scalar. resolved_number state.names None value >>= λ new_value. Ok (code.Assign scalar how new_value.0, state))
+    (assigned_scalar place found >>= λ scalar. main_number state.names value >>= λ new_value. Ok (code.Assign scalar how new_value, state))
 assigned_found h place how value None = record { same = refl }
 assigned_found h place how value (Some (resolution.Field field kind)) = record { same = refl }
 assigned_found h place how value (Some (resolution.Number slot)) = record { same = refl }
 assigned_found h place how value (Some (resolution.Element slot kind)) = record { same = refl }
-assigned_found {state = state} h place how value (Some (resolution.Scalar scalar)) = found_made (resolved_number state.names None value) _ (value_found h.agrees value) (λ v any. h)
+assigned_found {state = state} h place how value (Some (resolution.Scalar scalar)) = found_made (main_number state.names value) _ (value_found h.agrees value) (λ v any. h)
 
 -- a block whose items are resolved, and the block after `else`
 abbrev BlockFound : MainState → Site → Main → Type 0
@@ -225,15 +234,17 @@ regrouped {P = P} xs ys zs result h = subst (λ faults. Finds faults P result) (
 -- ITEMS
 mutual
   item_found : {state : MainState} {site : Site} → Follows state site → (i : MainItem) → Finds (faults_in_item site i) (λ r. Follows r.1 (after_item site i)) (resolved_item state i)
-  item_found {state = state} {site = site} h (MainField place name at kind init) = declaration_found h name at init _ (λ new. field_follows state site name kind h new)
-  item_found {state = state} {site = site} h (MainVar place name at init) = declaration_found h name at init _ (λ new. scalar_follows state site name h new)
+  item_found {state = state} {site = site} h (MainField place name at kind init) = declaration_found h name at init (declared_field state name at kind) (λ value number. code.Field number value)
+      (found_made (new_name (resolution_of state.names name) at) _ (name_found h.agrees name at) (λ u new. field_follows state site name kind h new))
+  item_found {state = state} {site = site} h (MainVar place name at init) = declaration_found h name at init (declared_scalar state name at) (λ value number. code.Var number value)
+      (found_made (new_name (resolution_of state.names name) at) _ (name_found h.agrees name at) (λ u new. scalar_follows state site name h new))
   item_found {state = state} {site = site} h (MainAssign place name how value) =
       subst (λ found. Finds (faults_in_main (main_target_steps place found (typed_steps site.environment NumberType value))) (λ (r : ItemCode × MainState). Follows r.1 site) (resolved_item state (MainAssign place name how value)))
       (h.agrees.each name) (assigned_found h place how value (resolution_of state.names name))
   item_found {state = state} {site = site} h (MainIf place test first second has_else) =
       let after_first : Site = after_block site (after_main (block_start site) first) in
       regrouped (faults_in_main (typed_steps site.environment TruthType test)) (faults_in_items (block_start site) first) (faults_in_items (block_start after_first) second) (resolved_item state (MainIf place test first second has_else))
-      (found_both (faults_in_main (typed_steps site.environment TruthType test)) (faults_in_items (block_start site) first ++ faults_in_items (block_start after_first) second) (resolved_truth state.names None test) _
+      (found_both (faults_in_main (typed_steps site.environment TruthType test)) (faults_in_items (block_start site) first ++ faults_in_items (block_start after_first) second) (main_truth state.names test) _
       (test_found h.agrees test)
       (λ condition any. found_both (faults_in_items (block_start site) first) (faults_in_items (block_start after_first) second) (resolved_items (opens_block state) [] first) _ (items_found (opened state site h) [] first)
       (λ r f. let then_state : MainState = closes_block state r.1 in
@@ -241,12 +252,11 @@ mutual
       found_made (else_block (has_else_block second has_else) then_state (resolved_items (opens_block then_state) [] second)) _
       (else_found follows second has_else (items_found (opened then_state after_first follows) [] second)) (λ b g. g))))
   item_found {state = state} {site = site} h (MainWhile place test body) =
-      found_both (faults_in_main (typed_steps site.environment TruthType test)) (faults_in_items (block_start site) body) (resolved_truth state.names None test) _ (test_found h.agrees test)
+      found_both (faults_in_main (typed_steps site.environment TruthType test)) (faults_in_items (block_start site) body) (main_truth state.names test) _ (test_found h.agrees test)
       (λ condition any. found_made (resolved_items (opens_block state) [] body) _ (items_found (opened state site h) [] body) (λ r f. closed state r.1 site _ h f))
   item_found {state = state} {site = site} h (MainFor place name at over body) =
-      found_both (faults_in_main (name_requirement site.environment name at)) (faults_in_steps [] (steps_in (comprehension_at site name over body))) (new_name (resolution_of state.names name) at) _ (name_found h.agrees name at)
-      (λ u new. found_made (resolved_comprehension state.names name over body) _ (comprehension_found h.agrees name over body new) (λ c is. comprehension_follows state site c (comprehension_at site name over body) h is))
-  item_found {state = state} {site = site} h (Print place value) = found_made (resolved_number state.names None value) _ (value_found h.agrees value) (λ v any. h)
+      found_made (resolved_comprehension state.names name at over body) _ (comprehension_found h.agrees name at over body) (λ c is. comprehension_follows state site c (comprehension_at site name over body) h is)
+  item_found {state = state} {site = site} h (Print place value) = found_made (main_number state.names value) _ (value_found h.agrees value) (λ v any. h)
 
   items_found : {state : MainState} {site : Site} → Follows state site → (done : List ItemCode) (program : Main)
       → Finds (faults_in_items site program) (λ r. Follows r.1 (after_main site program)) (resolved_items state done program)

@@ -26,7 +26,7 @@ use Rattle.phase_types.specs.declared.resolution.TypedCode.TheVariants as typed
 use Rattle.phase_types.specs.Environments.{Environment, Binding, FieldName, ScalarName, LocalName, ElementName, binding_of}
 use Rattle.phase_types.specs.Types.{ValueType, NumberType, TruthType, ElementType, are_towards_kinds, is_sameness, name_type, field_type, called_type, towards_type, matching_type, operator_type, comparison_type, type_of, type_after_links}
 use Rattle.phase_types.specs.Walk.{Step, OfField, OfScalar, requirement, access_step, place_of, has_type, name_steps, field_steps, type_requirement, steps_of, link_steps, typed_steps}
-use Rattle.phase_types.specs.Resolve.{◌>>=◌, fails, Names, resolution_of, Accesses, with_access, number_in, truth_in, element_of_kind, resolved_name, named_field, called_code, towards_code, comparison_code, first_of_chain, extended_chain, whole_chain, resolved_expression, resolved_links, resolved_number, resolved_truth}
+use Rattle.phase_types.specs.Resolve.{◌>>=◌, fails, Names, resolution_of, Accesses, with_access, number_in, truth_in, element_of_kind, resolved_name, named_field, called_code, towards_code, negated, inverted, comparison_code, first_of_chain, extended_chain, whole_chain, resolved_expression, resolved_links, resolved_number, resolved_truth}
 use Rattle.phase_types.proofs.WalkLemmas.{walk, Walks, in_turn, regrouped, made, chosen, IsAny, accessed}
 
 -- THE BINDING that a resolution has without its slot, and names that denote what they denote in an environment
@@ -97,17 +97,15 @@ kind_checked accesses kind place (typed.Element other code) = chosen accesses (i
 abbrev Gives : Accesses → Option ValueType → Place → Result TypedCode ProgramFault → Type 0
 Gives accesses type place check = Walks (λ v. accesses) (λ v. type ≡ Some (type_in v)) (walk accesses (type_requirement type place)) check
 
-negated : (accesses : Accesses) (place : Place) (value : TypedCode)
-    → Walks (λ n. accesses) (λ n. matching_type NumberType (Some (type_in value)) ≡ Some NumberType) (walk accesses (type_requirement (matching_type NumberType (Some (type_in value))) place)) (number_in place value)
-negated accesses place (typed.Number code) = record { same = (refl, refl) }
-negated accesses place (typed.Truth code) = record { same = refl }
-negated accesses place (typed.Element kind code) = record { same = refl }
+negated_gives : (accesses : Accesses) (place : Place) (value : TypedCode) → Gives accesses (matching_type NumberType (Some (type_in value))) place (negated place value)
+negated_gives accesses place (typed.Number code) = record { same = (refl, refl) }
+negated_gives accesses place (typed.Truth code) = record { same = refl }
+negated_gives accesses place (typed.Element kind code) = record { same = refl }
 
-inverted : (accesses : Accesses) (place : Place) (value : TypedCode)
-    → Walks (λ n. accesses) (λ n. matching_type TruthType (Some (type_in value)) ≡ Some TruthType) (walk accesses (type_requirement (matching_type TruthType (Some (type_in value))) place)) (truth_in place value)
-inverted accesses place (typed.Number code) = record { same = refl }
-inverted accesses place (typed.Truth code) = record { same = (refl, refl) }
-inverted accesses place (typed.Element kind code) = record { same = refl }
+inverted_gives : (accesses : Accesses) (place : Place) (value : TypedCode) → Gives accesses (matching_type TruthType (Some (type_in value))) place (inverted place value)
+inverted_gives accesses place (typed.Number code) = record { same = refl }
+inverted_gives accesses place (typed.Truth code) = record { same = (refl, refl) }
+inverted_gives accesses place (typed.Element kind code) = record { same = refl }
 
 call_gives : (accesses : Accesses) (place : Place) (fun : Fun) (kind : Kind) (arg : ElementCode)
     → Gives accesses (called_type fun (Some (ElementType kind))) place (called_code place fun (typed.Element kind arg))
@@ -234,10 +232,10 @@ module _ {names : Names} {environment : Environment} (agrees : Agrees names envi
         (λ later. resolved_expression names later to) (towards_code place) (walks accesses arg) (λ later. walks later to) (λ later v w. towards_gives later place v w)
     walks accesses (Neg place arg) =
         after_typed (λ type. HasItsType (matching_type NumberType type)) (λ type. type_requirement (matching_type NumberType type) place) accesses (steps_of environment arg) (type_of environment arg) (resolved_expression names accesses arg) _
-        (walks accesses arg) (λ v. made (number_in place v.0) _ (negated v.1 place v.0) (λ n e. (refl, e)))
+        (walks accesses arg) (λ v. made (negated place v.0) _ (negated_gives v.1 place v.0) (λ n e. (refl, e)))
     walks accesses (Not place arg) =
         after_typed (λ type. HasItsType (matching_type TruthType type)) (λ type. type_requirement (matching_type TruthType type) place) accesses (steps_of environment arg) (type_of environment arg) (resolved_expression names accesses arg) _
-        (walks accesses arg) (λ v. made (truth_in place v.0) _ (inverted v.1 place v.0) (λ n e. (refl, e)))
+        (walks accesses arg) (λ v. made (inverted place v.0) _ (inverted_gives v.1 place v.0) (λ n e. (refl, e)))
     walks accesses (Chain level first links) =
         after_typed (λ type. HasItsType (type_after_links environment type links)) (λ type. link_steps environment type links) accesses (steps_of environment first) (type_of environment first) (resolved_expression names accesses first) _
         (walks accesses first)

@@ -15,12 +15,12 @@ walk accesses (TestStep None ∷ steps) = walk accesses steps
 walk accesses (TestStep (Some fault) ∷ steps) = Err fault
 walk accesses (AccessStep access ∷ steps) = with_access accesses access.subject access.mode access.place >>= λ later. walk later steps
 
-bind_assoc : {A B C : Type 0} (first : Result A ProgramFault) (next : A → Result B ProgramFault) (last : B → Result C ProgramFault)
+pub bind_assoc : {A B C : Type 0} (first : Result A ProgramFault) (next : A → Result B ProgramFault) (last : B → Result C ProgramFault)
     → ((first >>= next) >>= last) ≡ (first >>= λ a. next a >>= last)
 bind_assoc (Ok a) next last = refl
 bind_assoc (Err fault) next last = refl
 
-same_next : {A B : Type 0} (first : Result A ProgramFault) (next other : A → Result B ProgramFault) → ((a : A) → next a ≡ other a) → (first >>= next) ≡ (first >>= other)
+pub same_next : {A B : Type 0} (first : Result A ProgramFault) (next other : A → Result B ProgramFault) → ((a : A) → next a ≡ other a) → (first >>= next) ≡ (first >>= other)
 same_next (Ok a) next other e = e a
 same_next (Err fault) next other e = refl
 

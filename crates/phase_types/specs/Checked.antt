@@ -6,12 +6,15 @@ use Rattle.liszt_base.specs.declared.answers.ProgramFault.{ProgramFault}
 use Rattle.liszt_base.specs.declared.answers.ProgramWhat.TheVariants.{NameUnknown, TypeMismatch}
 use Rattle.liszt_base.specs.declared.elements.Kind.{Kind}
 use Rattle.liszt_base.specs.declared.elements.Kind.TheVariants.{Vertex, Cell}
-use Rattle.liszt_tree.specs.Tree.{MainItem, MainField, MainVar, MainAssign, MainIf, MainWhile, MainFor, Print, Main, no_item, item}
+use Rattle.resolved_code.specs.declared.expressions.NumberCode.{NumberCode}
+use Rattle.resolved_code.specs.declared.expressions.TruthCode.{TruthCode}
+use Rattle.liszt_tree.specs.Tree.{Expression, MainItem, MainField, MainVar, MainAssign, MainIf, MainWhile, MainFor, Print, Main, no_item, item}
 use Rattle.resolved_code.specs.declared.items.BlockCode.{BlockCode}
 use Rattle.resolved_code.specs.declared.items.ComprehensionCode.{ComprehensionCode}
 use Rattle.resolved_code.specs.declared.items.ItemCode.{ItemCode}
 use Rattle.resolved_code.specs.declared.items.ItemCode.TheVariants as code
 use Rattle.phase_types.specs.declared.info.FieldInfo.{FieldInfo}
+pub use Rattle.phase_types.specs.declared.state.MainState.{MainState}
 use Rattle.phase_types.specs.declared.resolution.Resolution.{Resolution}
 use Rattle.phase_types.specs.declared.resolution.Resolution.TheVariants as resolution
 use Rattle.liszt_base.specs.declared.accesses.Mode.{Mode}
@@ -30,16 +33,7 @@ abbrev mutual
   items_of_item (MainWhile place test body) = 1 + item_count body
   items_of_item _ = 1
 
--- THE MAIN PROGRAM so far: the visible names, the scope, and the declared fields, the scalars, the scopes by their parents and the
--- comprehensions of the text so far, each numbered by its index, fields from `first_declared` on
-pub record MainState : Type 0 where
-  pub names : Names
-  pub scope : ℕ
-  pub fields : List FieldInfo
-  pub scalars : List (List ℕ)
-  pub scopes : List ℕ
-  pub comprehensions : List ComprehensionCode
-
+-- THE START of the main program: the built-in fields are visible
 abbrev pub built_in_names : Names
 built_in_names =
     (codes "PosX", resolution.Field 0 Vertex) ∷ (codes "PosY", resolution.Field 1 Vertex) ∷ (codes "PosZ", resolution.Field 2 Vertex)
@@ -104,6 +98,28 @@ closes_block state «end» =
       comprehensions = «end».comprehensions;
     }
 
+-- DECLARATIONS of a field and of a scalar, with their numbers
+abbrev pub declared_field : MainState → List ℕ → Place → Kind → Result (ℕ × MainState) ProgramFault
+declared_field state name at kind = do
+  new ← new_name (resolution_of state.names name) at
+  Ok (first_declared + length state.fields, declares_field name kind state)
+
+abbrev pub declared_scalar : MainState → List ℕ → Place → Result (ℕ × MainState) ProgramFault
+declared_scalar state name at = do
+  new ← new_name (resolution_of state.names name) at
+  Ok (length state.scalars, declares_scalar name state)
+
+-- values of the main program, whose accesses have no phase
+abbrev pub main_number : Names → Expression → Result NumberCode ProgramFault
+main_number names e = do
+  value ← resolved_number names None e
+  Ok value.0
+
+abbrev pub main_truth : Names → Expression → Result TruthCode ProgramFault
+main_truth names e = do
+  value ← resolved_truth names None e
+  Ok value.0
+
 abbrev pub assigned_scalar : Place → Option Resolution → Result ℕ ProgramFault
 assigned_scalar place None = fails NameUnknown place
 assigned_scalar place (Some (resolution.Scalar scalar)) = Ok scalar
@@ -119,39 +135,38 @@ else_block true state block = do
   items ← block
   Ok (Some (block_code state items.0), closes_block state items.1)
 
--- ITEMS, with the state at entry and the state after them. Accesses of the main program have no phase. Of a block the items so far
+-- ITEMS, with the state at entry and the state after them. Of a block the items so far
 -- are given.
 abbrev mutual
   pub resolved_item : MainState → MainItem → Result (ItemCode × MainState) ProgramFault
   resolved_item state (MainField place name at kind init) = do
-    value ← resolved_number state.names None init
-    new ← new_name (resolution_of state.names name) at
-    Ok (code.Field (first_declared + length state.fields) value.0, declares_field name kind state)
+    value ← main_number state.names init
+    declared ← declared_field state name at kind
+    Ok (code.Field declared.0 value, declared.1)
   resolved_item state (MainVar place name at init) = do
-    value ← resolved_number state.names None init
-    new ← new_name (resolution_of state.names name) at
-    Ok (code.Var (length state.scalars) value.0, declares_scalar name state)
+    value ← main_number state.names init
+    declared ← declared_scalar state name at
+    Ok (code.Var declared.0 value, declared.1)
   resolved_item state (MainAssign place name how value) = do
     scalar ← assigned_scalar place (resolution_of state.names name)
-    new_value ← resolved_number state.names None value
-    Ok (code.Assign scalar how new_value.0, state)
+    new_value ← main_number state.names value
+    Ok (code.Assign scalar how new_value, state)
   resolved_item state (MainIf place test first second has_else) = do
-    condition ← resolved_truth state.names None test
+    condition ← main_truth state.names test
     first_items ← resolved_items (opens_block state) [] first
     let after_first = closes_block state first_items.1
     second_block ← else_block (has_else_block second has_else) after_first (resolved_items (opens_block after_first) [] second)
-    Ok (code.If condition.0 (block_code state first_items.0) second_block.0, second_block.1)
+    Ok (code.If condition (block_code state first_items.0) second_block.0, second_block.1)
   resolved_item state (MainWhile place test body) = do
-    condition ← resolved_truth state.names None test
+    condition ← main_truth state.names test
     items ← resolved_items (opens_block state) [] body
-    Ok (code.While place condition.0 (block_code state items.0), closes_block state items.1)
+    Ok (code.While place condition (block_code state items.0), closes_block state items.1)
   resolved_item state (MainFor place name at over body) = do
-    new ← new_name (resolution_of state.names name) at
-    c ← resolved_comprehension state.names name over body
+    c ← resolved_comprehension state.names name at over body
     Ok (code.For (length state.comprehensions), with_comprehension_code c state)
   resolved_item state (Print place value) = do
-    operand ← resolved_number state.names None value
-    Ok (code.Print place operand.0, state)
+    operand ← main_number state.names value
+    Ok (code.Print place operand, state)
 
   pub resolved_items : MainState → List ItemCode → Main → Result (List ItemCode × MainState) ProgramFault
   resolved_items state done no_item = Ok (done, state)

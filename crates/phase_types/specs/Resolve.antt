@@ -1,6 +1,5 @@
 -- Resolved programs: the code of each part of a program, or its first fault, in the order of the walk. This project's own.
 use Rattle.std.specs.Prelude.{ℕ, ◌+◌, ◌&&◌, Bool, true, false, if◌then◌else◌, Option, Some, None, List, [], ◌∷◌, ◌++◌, length, Result, Ok, Err}
-use Rattle.std.specs.List.{find}
 use Rattle.std.specs.Str.{bytes_eq}
 use Rattle.liszt_base.specs.Kinds.{is_kind, has_set, kind_of}
 use Rattle.liszt_base.specs.declared.accesses.Mode.{Mode}
@@ -38,6 +37,8 @@ use Rattle.resolved_code.specs.declared.expressions.TruthLink.{TruthLink}
 use Rattle.resolved_code.specs.declared.items.ComprehensionCode.{ComprehensionCode}
 use Rattle.resolved_code.specs.declared.statements.StatementCode.{StatementCode}
 use Rattle.resolved_code.specs.declared.statements.StatementCode.TheVariants as code
+pub use Rattle.resolved_code.specs.Accesses.{first_access}
+pub use Rattle.phase_types.specs.declared.frame.Frame.{Frame}
 use Rattle.phase_types.specs.declared.resolution.ChainCode.{ChainCode}
 use Rattle.phase_types.specs.declared.resolution.ChainCode.TheVariants as chain
 use Rattle.phase_types.specs.declared.resolution.Resolution.{Resolution}
@@ -46,7 +47,7 @@ use Rattle.phase_types.specs.declared.resolution.TypedCode.{TypedCode}
 use Rattle.phase_types.specs.declared.resolution.TypedCode.TheVariants as typed
 use Rattle.phase_types.specs.Environments.{lookup, is_built_in}
 use Rattle.phase_types.specs.Types.{are_towards_kinds, is_sameness}
-use Rattle.phase_types.specs.Walk.{Subject, OfField, OfScalar, is_subject, AccessAt, is_mode, mode_by, fault_at, place_of}
+use Rattle.phase_types.specs.Walk.{Subject, OfField, OfScalar, AccessAt, is_mode, mode_by, fault_at, place_of}
 
 -- the second step, if the first has no fault
 infixl 10 ◌>>=◌
@@ -76,9 +77,6 @@ new_name (Some other) at = fails NameTwice at
 -- another mode than the first one is a conflict.
 abbrev pub Accesses : Type 0
 Accesses = Option (List AccessAt)
-
-abbrev pub first_access : List AccessAt → Subject → Option AccessAt
-first_access accesses subject = find (λ other. is_subject subject other.subject) accesses
 
 abbrev pub conflict_between : Place → Place → ProgramFault
 conflict_between place first = record { what = PhaseConflict; place = place; first = Some first }
@@ -160,6 +158,16 @@ comparison_code place rel (typed.Element kind left) (typed.Element other right) 
     if is_sameness rel && is_kind kind other then Ok (typed.Truth (truth.CompareElements (is_equality rel) left right)) else fails TypeMismatch place
 comparison_code place rel _ _ = fails TypeMismatch place
 
+abbrev pub negated : Place → TypedCode → Result TypedCode ProgramFault
+negated place operand = do
+  value ← number_in place operand
+  Ok (typed.Number (number.Neg place value))
+
+abbrev pub inverted : Place → TypedCode → Result TypedCode ProgramFault
+inverted place operand = do
+  value ← truth_in place operand
+  Ok (typed.Truth (truth.Not value))
+
 -- the operators of chains, and their links. A chain without links is its first operand.
 abbrev pub arithmetic_of : Sign → Option Arithmetic
 arithmetic_of sign.Plus = Some arithmetic.Plus
@@ -182,6 +190,16 @@ abbrev pub truth_link : Place → Option Connective → TruthCode → Result Tru
 truth_link place (Some op) arg = Ok (record { op = op; arg = arg })
 truth_link place None arg = fails TypeMismatch place
 
+abbrev pub number_operand : Place → Sign → TypedCode → Result NumberLink ProgramFault
+number_operand place sign operand = do
+  arg ← number_in place operand
+  number_link place (arithmetic_of sign) arg
+
+abbrev pub truth_operand : Place → Sign → TypedCode → Result TruthLink ProgramFault
+truth_operand place sign operand = do
+  arg ← truth_in place operand
+  truth_link place (connective_of sign) arg
+
 -- the start of a chain by its first operand, a chain with a further operand, and a whole chain
 abbrev pub first_of_chain : TypedCode → ChainCode
 first_of_chain (typed.Number value) = chain.Numbers value []
@@ -189,13 +207,13 @@ first_of_chain (typed.Truth value) = chain.Truths value []
 first_of_chain (typed.Element kind value) = chain.Element kind value
 
 abbrev pub extended_chain : Place → Sign → ChainCode → TypedCode → Result ChainCode ProgramFault
-extended_chain place sign (chain.Numbers first rest) (typed.Number arg) = do
-  next ← number_link place (arithmetic_of sign) arg
+extended_chain place sign (chain.Numbers first rest) operand = do
+  next ← number_operand place sign operand
   Ok (chain.Numbers first (rest ++ next ∷ []))
-extended_chain place sign (chain.Truths first rest) (typed.Truth arg) = do
-  next ← truth_link place (connective_of sign) arg
+extended_chain place sign (chain.Truths first rest) operand = do
+  next ← truth_operand place sign operand
   Ok (chain.Truths first (rest ++ next ∷ []))
-extended_chain place sign _ _ = fails TypeMismatch place
+extended_chain place sign (chain.Element kind value) operand = fails TypeMismatch place
 
 abbrev pub number_chain : NumberCode → List NumberLink → NumberCode
 number_chain first [] = first
@@ -232,12 +250,12 @@ abbrev mutual
     Ok (call, second.1)
   resolved_expression names accesses (Neg place arg) = do
     operand ← resolved_expression names accesses arg
-    value ← number_in place operand.0
-    Ok (typed.Number (number.Neg place value), operand.1)
+    value ← negated place operand.0
+    Ok (value, operand.1)
   resolved_expression names accesses (Not place arg) = do
     operand ← resolved_expression names accesses arg
-    value ← truth_in place operand.0
-    Ok (typed.Truth (truth.Not value), operand.1)
+    value ← inverted place operand.0
+    Ok (value, operand.1)
   resolved_expression names accesses (Chain level first links) = do
     operand ← resolved_expression names accesses first
     resolved_links names operand.1 (first_of_chain operand.0) links
@@ -275,19 +293,14 @@ resolved_element names accesses e = do
 
 -- A FRAME of a comprehension so far: the number of its number slots, the kinds of its element slots, and its accesses. Each declaration
 -- has a slot of its own; after a block its names are no longer visible, and its slots remain.
-pub record Frame : Type 0 where
-  pub numbers : ℕ
-  pub elements : List Kind
-  pub accesses : Accesses
-
 abbrev pub with_accesses : Accesses → Frame → Frame
 with_accesses accesses frame = record { numbers = frame.numbers; elements = frame.elements; accesses = accesses }
 
-abbrev pub with_number : Accesses → Frame → Frame
-with_number accesses frame = record { numbers = frame.numbers + 1; elements = frame.elements; accesses = accesses }
+abbrev pub with_number : Frame → Frame
+with_number frame = record { numbers = frame.numbers + 1; elements = frame.elements; accesses = frame.accesses }
 
-abbrev pub with_element : Kind → Accesses → Frame → Frame
-with_element kind accesses frame = record { numbers = frame.numbers; elements = frame.elements ++ kind ∷ []; accesses = accesses }
+abbrev pub with_element : Kind → Frame → Frame
+with_element kind frame = record { numbers = frame.numbers; elements = frame.elements ++ kind ∷ []; accesses = frame.accesses }
 
 abbrev pub number_name : List ℕ → Frame → List ℕ × Resolution
 number_name name frame = (name, resolution.Number frame.numbers)
@@ -317,25 +330,48 @@ resolved_assignment names frame place how value (Some (resolution.Number slot)) 
   Ok (code.Local slot how operand.0, with_accesses operand.1 frame)
 resolved_assignment names frame place how value (Some other) = fails TypeMismatch place
 
+-- an assignment to a name with an argument
+abbrev pub resolved_field_assignment : Names → Frame → Place → How → Expression → Expression → Option Resolution → Result (StatementCode × Frame) ProgramFault
+resolved_field_assignment names frame place how target value found = do
+  field ← assigned_field place found
+  operand ← resolved_expression names frame.accesses target
+  at_element ← element_of_kind field.1 place operand.0
+  later ← with_access operand.1 (OfField field.0) (mode_by how) place
+  new_value ← resolved_number names later value
+  Ok (code.Field place field.0 how at_element new_value.0, with_accesses new_value.1 frame)
+
+-- DECLARATIONS of a local number and of an element, with their slots
+abbrev pub declared_number : Names → Frame → List ℕ → Place → Result (ℕ × Names × Frame) ProgramFault
+declared_number names frame name at = do
+  new ← new_name (resolution_of names name) at
+  Ok (frame.numbers, names ++ number_name name frame ∷ [], with_number frame)
+
+abbrev pub declared_element : Names → Frame → List ℕ → Place → Kind → Result (ℕ × Names × Frame) ProgramFault
+declared_element names frame name at kind = do
+  new ← new_name (resolution_of names name) at
+  Ok (length frame.elements, names ++ element_name name kind frame ∷ [], with_element kind frame)
+
+abbrev pub resolved_var : Names → Frame → List ℕ → Place → Expression → Result (StatementCode × Names × Frame) ProgramFault
+resolved_var names frame name at init = do
+  value ← resolved_number names frame.accesses init
+  declared ← declared_number names (with_accesses value.1 frame) name at
+  Ok (code.Var declared.0 value.0, declared.1, declared.2)
+
+abbrev pub resolved_val : Names → Frame → List ℕ → Place → Expression → Result (StatementCode × Names × Frame) ProgramFault
+resolved_val names frame name at init = do
+  value ← resolved_element names frame.accesses init
+  declared ← declared_element names (with_accesses value.1 frame) name at value.0.0
+  Ok (code.Val declared.0 value.0.1, declared.1, declared.2)
+
 -- STATEMENTS, with the names and the frame at entry and those after them. Of a body the statements so far are given; its names end
 -- with it.
 abbrev mutual
   pub resolved_statement : Names → Frame → Statement → Result (StatementCode × Names × Frame) ProgramFault
-  resolved_statement names frame (Var place name at init) = do
-    value ← resolved_number names frame.accesses init
-    new ← new_name (resolution_of names name) at
-    Ok (code.Var frame.numbers value.0, names ++ number_name name frame ∷ [], with_number value.1 frame)
-  resolved_statement names frame (Val place name at init) = do
-    value ← resolved_element names frame.accesses init
-    new ← new_name (resolution_of names name) at
-    Ok (code.Val (length frame.elements) value.0.1, names ++ element_name name value.0.0 frame ∷ [], with_element value.0.0 value.1 frame)
+  resolved_statement names frame (Var place name at init) = resolved_var names frame name at init
+  resolved_statement names frame (Val place name at init) = resolved_val names frame name at init
   resolved_statement names frame (Assign place name (Some target) how value) = do
-    field ← assigned_field place (resolution_of names name)
-    operand ← resolved_expression names frame.accesses target
-    at_element ← element_of_kind field.1 place operand.0
-    later ← with_access operand.1 (OfField field.0) (mode_by how) place
-    new_value ← resolved_number names later value
-    Ok (code.Field place field.0 how at_element new_value.0, names, with_accesses new_value.1 frame)
+    assignment ← resolved_field_assignment names frame place how target value (resolution_of names name)
+    Ok (assignment.0, names, assignment.1)
   resolved_statement names frame (Assign place name None how value) = do
     assignment ← resolved_assignment names frame place how value (resolution_of names name)
     Ok (assignment.0, names, assignment.1)
@@ -351,9 +387,9 @@ abbrev mutual
   resolved_statement names frame (For place name at set set_at arg body) = do
     operand ← resolved_expression names frame.accesses arg
     origin ← element_with_set set set_at operand.0
-    new ← new_name (resolution_of names name) at
-    block ← resolved_body (names ++ element_name name (kind_of set) frame ∷ []) (with_element (kind_of set) operand.1 frame) [] body
-    Ok (code.For (length frame.elements) set set_at origin block.0, names, block.1)
+    declared ← declared_element names (with_accesses operand.1 frame) name at (kind_of set)
+    block ← resolved_body declared.1 declared.2 [] body
+    Ok (code.For declared.0 set set_at origin block.0, names, block.1)
 
   pub resolved_body : Names → Frame → List StatementCode → Body → Result (List StatementCode × Frame) ProgramFault
   resolved_body names frame done no_statement = Ok (done, frame)
@@ -369,7 +405,8 @@ accesses_in (Some accesses) = accesses
 abbrev pub no_slots : Frame
 no_slots = record { numbers = 0; elements = []; accesses = Some [] }
 
-abbrev pub resolved_comprehension : Names → List ℕ → Kind → Body → Result ComprehensionCode ProgramFault
-resolved_comprehension names name over body = do
-  block ← resolved_body (names ++ element_name name over no_slots ∷ []) (with_element over (Some []) no_slots) [] body
+abbrev pub resolved_comprehension : Names → List ℕ → Place → Kind → Body → Result ComprehensionCode ProgramFault
+resolved_comprehension names name at over body = do
+  declared ← declared_element names no_slots name at over
+  block ← resolved_body declared.1 declared.2 [] body
   Ok (record { over = over; elements = block.1.elements; numbers = block.1.numbers; body = block.0; accesses = accesses_in block.1.accesses })

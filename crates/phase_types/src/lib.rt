@@ -3,8 +3,15 @@
 #![tactic(auto)]
 
 mod cases;
+mod expression;
+mod frame;
 mod info;
 pub mod laws;
+mod names;
+mod program;
 mod resolution;
+mod state;
+mod statement;
+mod values;
 
 pub use info::FieldInfo;

@@ -1,5 +1,5 @@
-use crate::accesses::AccessAt;
 use crate::expressions::{NumberCode, TruthCode};
+use crate::first_accesses::FirstAccesses;
 use crate::statements::StatementCodes;
 use liszt_base::{Kind, Place};
 use liszt_tree::How;
@@ -14,7 +14,7 @@ pub struct ComprehensionCode {
     pub elements: Items<Kind>,
     pub numbers: u32,
     pub body: StatementCodes,
-    pub accesses: Items<AccessAt>,
+    pub accesses: FirstAccesses,
 }
 
 /// The items of a main program, or of a block in it.

@@ -5,6 +5,7 @@
 
 mod accesses;
 mod expressions;
+mod first_accesses;
 mod items;
 mod shared;
 mod statements;
@@ -13,5 +14,6 @@ pub use accesses::{AccessAt, Subject};
 pub use expressions::{
     Arithmetic, Connective, ElementCode, ElementFun, NumberCode, NumberLink, TruthCode, TruthLink,
 };
+pub use first_accesses::FirstAccesses;
 pub use items::{BlockCode, ComprehensionCode, ItemCode, ItemCodes};
 pub use statements::{StatementCode, StatementCodes};

@@ -4,6 +4,7 @@ ghost use Rattle.std.specs.Prelude.{◌≡◌};
 
 use crate::accesses::{AccessAt, Subject};
 use crate::expressions::{Arithmetic, Connective, ElementCode, ElementFun, NumberCode, TruthCode};
+use crate::first_accesses::FirstAccesses;
 use crate::items::{BlockCode, ComprehensionCode, ItemCode};
 use crate::statements::StatementCode;
 
@@ -17,10 +18,11 @@ fn shared<T: Send + Sync>() -> usize
 /// The number of types of this crate that may be shared, each with the types of its parts.
 #[allow(dead_code)]
 fn shared_types() -> usize
-    ensures { result ≡ 12 }
+    ensures { result ≡ 13 }
 {
     shared::<Subject>()
         + shared::<AccessAt>()
+        + shared::<FirstAccesses>()
         + shared::<ElementFun>()
         + shared::<Arithmetic>()
         + shared::<Connective>()
