@@ -84,6 +84,7 @@ fn run_given<R: Threads + Wait + Sync, F: Shelf, S: Sink>(
     ensures usage { IfOk words (λ words. command_of words ≡ None
         → ((result ≡ Usage) ⊎ (result ≡ NotWritten)) × (shelf.new ≡ shelf.old)) }
     ensures only { IfOk words (λ words. result ≡ Usage → command_of words ≡ None) }
+    ensures contents { F.contents shelf.new ≡ F.contents shelf.old }
     ensures refused { IfErr words (λ ended.
         Refuses ended (S.output out.old) (S.output out.new) result) }
     ensures flushed { (result ≡ NotWritten → ⊥) → S.is_flushed out.new ≡ true }
