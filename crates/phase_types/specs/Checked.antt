@@ -14,6 +14,7 @@ use Rattle.resolved_code.specs.declared.items.ComprehensionCode.{ComprehensionCo
 use Rattle.resolved_code.specs.declared.items.ItemCode.{ItemCode}
 use Rattle.resolved_code.specs.declared.items.ItemCode.TheVariants as code
 use Rattle.phase_types.specs.declared.info.FieldInfo.{FieldInfo}
+pub use Rattle.phase_types.specs.declared.state.CheckedProgram.{CheckedProgram}
 pub use Rattle.phase_types.specs.declared.state.MainState.{MainState}
 use Rattle.phase_types.specs.declared.resolution.Resolution.{Resolution}
 use Rattle.phase_types.specs.declared.resolution.Resolution.TheVariants as resolution
@@ -173,14 +174,6 @@ abbrev mutual
   resolved_items state done (item i rest) = do
     next ← resolved_item state i
     resolved_items next.1 (done ++ next.0 ∷ []) rest
-
--- A CHECKED PROGRAM: its declared fields, scalars, scopes by their parents, comprehensions, and the items of its main part
-pub record CheckedProgram : Type 0 where
-  pub fields : List FieldInfo
-  pub scalars : List (List ℕ)
-  pub scopes : List ℕ
-  pub comprehensions : List ComprehensionCode
-  pub items : List ItemCode
 
 abbrev pub checked_program : Main → Result CheckedProgram ProgramFault
 checked_program program = do

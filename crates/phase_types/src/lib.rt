@@ -3,6 +3,7 @@
 #![tactic(auto)]
 
 mod cases;
+mod checker;
 mod expression;
 mod frame;
 mod info;

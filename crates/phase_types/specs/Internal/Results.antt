@@ -1,5 +1,5 @@
 -- What a function of the resolver answers, with the state that it leaves. This project's own.
-use Rattle.std.specs.Prelude.{Bool, ℕ, Option, List, [], Result, Ok, Err}
+use Rattle.std.specs.Prelude.{◌≡◌, ◌++◌, length, Bool, Some, ℕ, Option, List, [], Result, Ok, Err}
 use Rattle.liszt_base.specs.Kinds.{kind_of}
 use Rattle.liszt_base.specs.declared.elements.Kind.{Kind}
 use Rattle.liszt_base.specs.declared.elements.SetName.{SetName}
@@ -14,14 +14,14 @@ use Rattle.liszt_base.specs.declared.answers.ProgramFault.{ProgramFault}
 use Rattle.resolved_code.specs.declared.items.BlockCode.{BlockCode}
 use Rattle.resolved_code.specs.declared.items.ItemCode.{ItemCode}
 use Rattle.resolved_code.specs.declared.items.ItemCode.TheVariants as item
-use Rattle.phase_types.specs.Checked.{MainState, opens_block, closes_block, block_code, else_block, resolved_items}
+use Rattle.phase_types.specs.Checked.{main_number, declared_field, declared_scalar, with_comprehension_code, MainState, opens_block, closes_block, block_code, else_block, resolved_items}
 use Rattle.phase_types.specs.Environments.{has_else_block}
 use Rattle.liszt_tree.specs.Tree.{Main, Body, Expression}
 use Rattle.resolved_code.specs.declared.expressions.NumberCode.TheVariants as number
 use Rattle.phase_types.specs.declared.resolution.Resolution.{Resolution}
 use Rattle.phase_types.specs.declared.resolution.TypedCode.{TypedCode}
 use Rattle.phase_types.specs.declared.resolution.TypedCode.TheVariants as typed
-use Rattle.phase_types.specs.Resolve.{◌>>=◌, accesses_in, Frame, declared_element, resolved_body, Names, Accesses, with_access, element_of_kind, named_field, resolved_expression}
+use Rattle.phase_types.specs.Resolve.{◌>>=◌, resolved_comprehension, accesses_in, Frame, declared_element, resolved_body, Names, Accesses, with_access, element_of_kind, named_field, resolved_expression}
 use Rattle.phase_types.specs.Walk.{OfField}
 
 abbrev pub paired : {A S F : Type 0} → Result A F → S → Result (A × S) F
@@ -76,9 +76,35 @@ resolved_block state items = do
 abbrev pub resolved_else : MainState → Main → Bool → Result (Option BlockCode × MainState) ProgramFault
 resolved_else state items has_else = else_block (has_else_block items has_else) state (resolved_items (opens_block state) [] items)
 
--- an `if` and a `while` of a resolved test
-abbrev pub branches_code : MainState → TruthCode → Main → Main → Bool → Result (ItemCode × MainState) ProgramFault
-branches_code state test first second has_else = do
-  first_block ← resolved_block state first
-  second_block ← resolved_else first_block.1 second has_else
-  Ok (item.If test first_block.0 second_block.0, second_block.1)
+-- a `while` of a resolved test
+abbrev pub main_repetition_code : MainState → Place → TruthCode → Main → Result (ItemCode × MainState) ProgramFault
+main_repetition_code state place test body = do
+  block ← resolved_block state body
+  Ok (item.While place test block.0, block.1)
+
+-- declarations and comprehensions as items
+abbrev pub field_item : MainState → List ℕ → Place → Kind → Expression → Result (ItemCode × MainState) ProgramFault
+field_item state name at kind init = do
+  value ← main_number state.names init
+  declared ← declared_field state name at kind
+  Ok (item.Field declared.0 value, declared.1)
+
+abbrev pub scalar_item : MainState → List ℕ → Place → Expression → Result (ItemCode × MainState) ProgramFault
+scalar_item state name at init = do
+  value ← main_number state.names init
+  declared ← declared_scalar state name at
+  Ok (item.Var declared.0 value, declared.1)
+
+abbrev pub comprehension_item : MainState → List ℕ → Place → Kind → Body → Result (ItemCode × MainState) ProgramFault
+comprehension_item state name at over body = do
+  c ← resolved_comprehension state.names name at over body
+  Ok (item.For (length state.comprehensions), with_comprehension_code c state)
+
+-- names that are visible remain the first ones
+abbrev pub ExtendsNames : Names → Names → Type 0
+ExtendsNames names later = (rest : Names) × (later ≡ names ++ rest)
+
+abbrev pub some_block : MainState → Main → Result (Option BlockCode × MainState) ProgramFault
+some_block state items = do
+  block ← resolved_block state items
+  Ok (Some block.0, block.1)
