@@ -29,15 +29,15 @@ returns c =
     let simple : Simple = record { name = s.name.now; first = s.first; added = s.added } in
     let is = found (program_tree c.args.program.now) simple (sym c.simple_of.ensures ∙ ap (option_map (λ s. record { name = s.name.now; first = s.first; added = s.added })) c.in-Some.is) in
     (simple, is, job_text_is simple c.args.mesh _ _ (search rules) (value_is s.first s.added is.first is.added),
-    no_fault_if_checked (program_tree c.args.program.now) c.in_ok-check.ensures.0 c.in_ok-check.ensures.1)
+    no_fault_if_checked (program_tree c.args.program.now) _ c.in_ok-check.ensures.gives)
 
 pub returns-in_default : goal.returns-in_default
 returns-in_default c =
     let tree = program_tree c.args.program.now in
     let none : None ≡ simple_at tree = rw c.in_default.is at c.simple_of.ensures in
-    inr (inr (refl, not_simple tree (sym none), no_fault_if_checked tree c.in_ok-check.ensures.0 c.in_ok-check.ensures.1))
+    inr (inr (refl, not_simple tree (sym none), no_fault_if_checked tree _ c.in_ok-check.ensures.gives))
 
 pub returns-in_err-check : goal.returns-in_err-check
 returns-in_err-check c =
     let p = err_from_is_err_and c.from_residual.result c.from_residual.ensures.1 in
-    job_refused (program_tree c.args.program.now) c.args.mesh c.from_residual.result c.in_err-check.field-0.0 c.in_err-check.ensures (p.1 ∙ ap Err p.2)
+    job_refused (program_tree c.args.program.now) c.args.mesh c.from_residual.result c.in_err-check.field-0.0 c.in_err-check.ensures.gives (p.1 ∙ ap Err p.2)
