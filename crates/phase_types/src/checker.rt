@@ -1,11 +1,15 @@
 //! Checks a program: its code, or its first fault.
 
-ghost use Rattle.std.specs.Prelude.{◌≡◌, ◌≤◌, [], ◌∷◌, OnOk, IfOk, codes};
+ghost use Rattle.std.specs.Prelude.{◌≡◌, ◌≤◌, Some, Err, OnOk, IfOk};
 ghost use Rattle.liszt_base.specs.Gives.{Gives};
 ghost use Rattle.liszt_base.specs.Limits.{token_limit};
+ghost use Rattle.liszt_base.specs.declared.answers.ProgramFault.{ProgramFault as FaultOf};
+ghost use Rattle.liszt_base.specs.declared.answers.Refused.TheVariants.{Fault};
 ghost use Rattle.liszt_tree.specs.Tree.{program_tree};
-ghost use Rattle.phase_types.specs.Checked as Checked;
-ghost use Rattle.phase_types.specs.Checked.{checked_program, item_count};
+ghost use Rattle.phase_types.specs.Checked as Definitions;
+ghost use Rattle.phase_types.specs.Checked.{checked_program, item_count, HasPartsOf};
+ghost use Rattle.phase_types.specs.Typed.{IsTyped};
+ghost use Rattle.phase_types.specs.Walk.{check_fault};
 
 use crate::names::Names;
 use crate::program::resolve_items;
@@ -16,10 +20,11 @@ use liszt_base::{Kind, NoMemory};
 use liszt_tree::Program;
 use sqlite_items::Items;
 use std::alloc::Global;
+use std::marker::Model;
 
 /// The built-in fields as the visible names.
 fn built_in_names(alloc: Global) -> Result<Names, NoMemory>
-    ensures { IfOk result (λ names. names ≡ Checked.built_in_names) }
+    ensures { IfOk result (λ names. names ≡ Definitions.built_in_names) }
 {
     let mut names = Names::new(alloc);
     let kind = Kind::Vertex;
@@ -34,7 +39,7 @@ fn built_in_names(alloc: Global) -> Result<Names, NoMemory>
 
 /// The state at the start of a program.
 fn first_state(alloc: Global) -> Result<MainState, NoMemory>
-    ensures { IfOk result (λ state. state ≡ Checked.first_state) }
+    ensures { IfOk result (λ state. state ≡ Definitions.first_state) }
 {
     let names = built_in_names(alloc)?;
     let mut scopes = Items::new(alloc);
@@ -47,6 +52,30 @@ fn first_state(alloc: Global) -> Result<MainState, NoMemory>
         scopes,
         comprehensions: Items::new(alloc),
     })
+}
+
+/// A program that is checked. Contracts see its parts.
+#[derive(Drop)]
+pub struct Checked {
+    program: CheckedProgram,
+}
+
+impl Model for Checked {
+    ghost use Rattle.std.specs.Coded.{codes};
+    ghost use Rattle.resolved_code.specs.contracts.expressions.ElementCode as element;
+    ghost use Rattle.resolved_code.specs.contracts.expressions.NumberCode as number;
+    ghost use Rattle.resolved_code.specs.contracts.expressions.TruthCode as truth;
+    ghost use Rattle.resolved_code.specs.contracts.statements.StatementCode as statement;
+    ghost use Rattle.resolved_code.specs.contracts.items.ItemCode as item;
+    ghost use Rattle.phase_types.specs.Checked.{CheckedProgram as Parts, IsChecked};
+
+    ghost Value = { Parts };
+
+    ghost coded = { Prim.hlevel (codes, element.the_row.coded, number.the_row.coded, truth.the_row.coded, statement.the_row.coded, item.the_row.coded) };
+
+    ghost view = { λ c. c.program };
+
+    ghost invariant = { λ c. IsChecked c.program };
 }
 
 /// The checked program, or the first fault.
@@ -69,4 +98,19 @@ fn check_program(alloc: Global, p: &Program) -> Resolved<CheckedProgram>
         comprehensions,
         items,
     })
+}
+
+/// Checks a program: names, types, phases and writes.
+pub fn check(alloc: Global, p: &Program) -> Resolved<Checked>
+    requires { item_count (program_tree p.now) ≤ token_limit }
+    ensures gives { Gives (checked_program (program_tree p.now)) result }
+    ensures typed { OnOk result (IsTyped (program_tree p.now)) }
+    ensures parts { IfOk result (λ checked. HasPartsOf (program_tree p.now) checked) }
+    ensures fault { (fault : FaultOf) → result ≡ Err (Fault fault)
+        → check_fault (program_tree p.now) ≡ Some fault }
+{
+    match check_program(alloc, p) {
+        Ok(program) => Ok(Checked { program }),
+        Err(refused) => Err(refused),
+    }
 }

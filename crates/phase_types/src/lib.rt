@@ -15,4 +15,5 @@ mod state;
 mod statement;
 mod values;
 
+pub use checker::{Checked, check};
 pub use info::FieldInfo;
