@@ -14,7 +14,6 @@ use Rattle.resolved_code.specs.declared.items.BlockCode.{BlockCode}
 use Rattle.resolved_code.specs.declared.items.ComprehensionCode.{ComprehensionCode}
 use Rattle.resolved_code.specs.declared.items.ItemCode.{ItemCode}
 use Rattle.resolved_code.specs.declared.items.ItemCode.TheVariants as code
-use Rattle.phase_types.specs.declared.info.FieldInfo.{FieldInfo}
 pub use Rattle.phase_types.specs.declared.state.CheckedProgram.{CheckedProgram}
 pub use Rattle.phase_types.specs.declared.state.MainState.{MainState}
 use Rattle.phase_types.specs.declared.resolution.Resolution.{Resolution}

@@ -24,8 +24,40 @@ use sqlite_items::Items;
 use std::alloc::Global;
 use std::marker::Model;
 
+/// A program that is checked. Contracts see its parts.
+#[derive(Drop)]
+pub struct Checked {
+    program: CheckedProgram,
+}
+
+impl Model for Checked {
+    ghost use Rattle.std.specs.Coded.{codes};
+    ghost use Rattle.resolved_code.specs.contracts.expressions.ElementCode as element;
+    ghost use Rattle.resolved_code.specs.contracts.expressions.NumberCode as number;
+    ghost use Rattle.resolved_code.specs.contracts.expressions.TruthCode as truth;
+    ghost use Rattle.resolved_code.specs.contracts.statements.StatementCode as statement;
+    ghost use Rattle.resolved_code.specs.contracts.items.ItemCode as item;
+    ghost use Rattle.phase_types.specs.Checked.{CheckedProgram as Parts, IsChecked};
+
+    ghost Value = { Parts };
+
+    ghost coded = { Prim.hlevel (
+      codes,
+      element.the_row.coded,
+      number.the_row.coded,
+      truth.the_row.coded,
+      statement.the_row.coded,
+      item.the_row.coded,
+    ) };
+
+    ghost view = { λ c. c.program };
+
+    ghost invariant = { λ c. IsChecked c.program };
+}
+
 impl Checked {
-    /// States that every checked program is that of a program that is not too long, and so has few parts; it has no effect.
+    /// States that every checked program is that of a program of at most 131,072 items, and so has no more fields, scalars or
+    /// comprehensions; it has no effect.
     pub fn is_checked(&self)
         ensures program { IsChecked self.now }
         ensures within { IsWithin token_limit self.now }
@@ -134,30 +166,6 @@ fn first_state(alloc: Global) -> Result<MainState, NoMemory>
     })
 }
 
-/// A program that is checked. Contracts see its parts.
-#[derive(Drop)]
-pub struct Checked {
-    program: CheckedProgram,
-}
-
-impl Model for Checked {
-    ghost use Rattle.std.specs.Coded.{codes};
-    ghost use Rattle.resolved_code.specs.contracts.expressions.ElementCode as element;
-    ghost use Rattle.resolved_code.specs.contracts.expressions.NumberCode as number;
-    ghost use Rattle.resolved_code.specs.contracts.expressions.TruthCode as truth;
-    ghost use Rattle.resolved_code.specs.contracts.statements.StatementCode as statement;
-    ghost use Rattle.resolved_code.specs.contracts.items.ItemCode as item;
-    ghost use Rattle.phase_types.specs.Checked.{CheckedProgram as Parts, IsChecked};
-
-    ghost Value = { Parts };
-
-    ghost coded = { Prim.hlevel (codes, element.the_row.coded, number.the_row.coded, truth.the_row.coded, statement.the_row.coded, item.the_row.coded) };
-
-    ghost view = { λ c. c.program };
-
-    ghost invariant = { λ c. IsChecked c.program };
-}
-
 /// The checked program, or the first fault.
 fn check_program(alloc: Global, p: &Program) -> Resolved<CheckedProgram>
     ensures { Gives (checked_program (program_tree p.now)) result }
@@ -180,7 +188,8 @@ fn check_program(alloc: Global, p: &Program) -> Resolved<CheckedProgram>
     })
 }
 
-/// Checks a program: names, types, phases and writes.
+/// Checks the names, types, phases and writes of a program of at most 131,072 items, those in blocks counted. Gives the checked program,
+/// or the first fault in the order of the walk.
 pub fn check(alloc: Global, p: &Program) -> Resolved<Checked>
     requires { item_count (program_tree p.now) ≤ token_limit }
     ensures gives { Gives (checked_program (program_tree p.now)) result }

@@ -1,4 +1,4 @@
-use Rattle.std.proofs.Common.{◌≡◌, ◌∙◌, subst}
+use Rattle.std.proofs.Common.{◌∙◌, subst}
 use Rattle.liszt_base.specs.Gives.{Gives}
 use Rattle.liszt_tree.specs.Tree.{program_tree}
 use Rattle.phase_types.specs.Checked.{checked_program}
