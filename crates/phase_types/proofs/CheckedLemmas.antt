@@ -8,6 +8,7 @@ use Rattle.std.specs.Prelude.{Option, Some, None, slice_get, if◌then◌else◌
 use Rattle.std.specs.Str.{bytes_eq}
 use Rattle.liszt_base.specs.declared.answers.Place.{Place}
 use Rattle.liszt_base.specs.declared.answers.ProgramFault.{ProgramFault}
+use Rattle.liszt_base.specs.Limits.{token_limit}
 use Rattle.liszt_base.specs.declared.elements.Kind.{Kind}
 use Rattle.liszt_tree.specs.declared.tree.How.{How}
 use Rattle.liszt_tree.specs.Tree.{item_nodes, main_nodes, Expression, Body, MainItem, MainField, MainVar, MainAssign, MainIf, MainWhile, MainFor, Print, Main, no_item, item}
@@ -17,7 +18,7 @@ use Rattle.resolved_code.specs.declared.items.ItemCode.{ItemCode}
 use Rattle.resolved_code.specs.declared.items.ItemCode.TheVariants as code
 use Rattle.phase_types.specs.declared.resolution.Resolution.{Resolution}
 use Rattle.phase_types.specs.declared.resolution.Resolution.TheVariants as resolution
-use Rattle.phase_types.specs.Checked.{main_number, main_truth, declared_field, declared_scalar, items_of_item, item_count, MainState, built_in_names, first_state, declares_field, declares_scalar, with_comprehension_code, opens_block, closes_block, assigned_scalar, block_code, else_block, resolved_item, resolved_items, CheckedProgram, checked_program, access_mode, HasPartsOf, IsWithin}
+use Rattle.phase_types.specs.Checked.{main_number, main_truth, declared_field, declared_scalar, items_of_item, item_count, MainState, built_in_names, first_state, declares_field, declares_scalar, with_comprehension_code, opens_block, closes_block, assigned_scalar, block_code, else_block, resolved_item, resolved_items, CheckedProgram, checked_program, access_mode, HasPartsOf, IsWithin, IsChecked}
 use Rattle.phase_types.specs.Environments.{Environment, Binding, FieldName, ScalarName, ElementName, binding_of, first_declared, Comprehension, Part, ScopePart, field_part, scalar_part, comprehension_part, scope_part, fields_in, scalars_in, comprehensions_in, scopes_in, Site, start, with_field, with_scalar, comprehension_at, with_comprehension, block_start, after_block, has_else_block, after_item, after_main}
 use Rattle.phase_types.specs.Resolve.{◌>>=◌, Frame, declared_element, Names, resolution_of, new_name, Accesses, accesses_in, no_slots, with_element, element_name, resolved_number, resolved_truth, resolved_body, resolved_comprehension}
 use Rattle.phase_types.specs.Types.{NumberType, TruthType}
@@ -428,3 +429,13 @@ mutual
   pub items_are_nodes : (program : Main) → item_count program ≤ main_nodes program
   items_are_nodes no_item = omega arith
   items_are_nodes (item i rest) = let a = item_is_node i in let b = items_are_nodes rest in omega (arith, a, b)
+
+-- a program that is not too long has few parts
+pub checked_few : {checked : CheckedProgram} → IsChecked checked → IsWithin token_limit checked
+checked_few {checked = checked} h =
+    let within = checked_within h.program checked h.is in
+    let few = h.items in
+    let fields = within.fields in
+    let scalars = within.scalars in
+    let comprehensions = within.comprehensions in
+    record { fields = omega (arith, few, fields); scalars = omega (arith, few, scalars); comprehensions = omega (arith, few, comprehensions) }

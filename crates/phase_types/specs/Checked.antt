@@ -6,6 +6,7 @@ use Rattle.liszt_base.specs.declared.answers.ProgramFault.{ProgramFault}
 use Rattle.liszt_base.specs.declared.answers.ProgramWhat.TheVariants.{NameUnknown, TypeMismatch}
 use Rattle.liszt_base.specs.declared.elements.Kind.{Kind}
 use Rattle.liszt_base.specs.declared.elements.Kind.TheVariants.{Vertex, Cell}
+use Rattle.liszt_base.specs.Limits.{token_limit}
 use Rattle.resolved_code.specs.declared.expressions.NumberCode.{NumberCode}
 use Rattle.resolved_code.specs.declared.expressions.TruthCode.{TruthCode}
 use Rattle.liszt_tree.specs.Tree.{Expression, MainItem, MainField, MainVar, MainAssign, MainIf, MainWhile, MainFor, Print, Main, no_item, item}
@@ -13,7 +14,6 @@ use Rattle.resolved_code.specs.declared.items.BlockCode.{BlockCode}
 use Rattle.resolved_code.specs.declared.items.ComprehensionCode.{ComprehensionCode}
 use Rattle.resolved_code.specs.declared.items.ItemCode.{ItemCode}
 use Rattle.resolved_code.specs.declared.items.ItemCode.TheVariants as code
-use Rattle.phase_types.specs.declared.info.FieldInfo.{FieldInfo}
 pub use Rattle.phase_types.specs.declared.state.CheckedProgram.{CheckedProgram}
 pub use Rattle.phase_types.specs.declared.state.MainState.{MainState}
 use Rattle.phase_types.specs.declared.resolution.Resolution.{Resolution}
@@ -212,3 +212,9 @@ pub record IsWithin (limit : ℕ) (checked : CheckedProgram) : Type 0 where
   pub fields : length checked.fields ≤ limit
   pub scalars : length checked.scalars ≤ limit
   pub comprehensions : length checked.comprehensions ≤ limit
+
+-- the checked program of a program that is not too long
+pub record IsChecked (checked : CheckedProgram) : Type 0 where
+  pub program : Main
+  pub items : item_count program ≤ token_limit
+  pub is : checked_program program ≡ Ok checked

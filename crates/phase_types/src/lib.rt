@@ -1,5 +1,5 @@
 //! Checked programs: types, environments, the numbers of the parts of a program, phases, and the first fault of the walk that
-//! checks a program. So far definitions, with worked cases and laws.
+//! checks a program; and `check`, which gives the code of a program or that fault.
 #![tactic(auto)]
 
 mod cases;
@@ -15,4 +15,5 @@ mod state;
 mod statement;
 mod values;
 
+pub use checker::{Checked, check};
 pub use info::FieldInfo;

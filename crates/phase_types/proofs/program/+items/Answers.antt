@@ -1,4 +1,4 @@
-use Rattle.std.proofs.Common.{arith, length, ◌≡◌, ◌+◌, ◌<◌, [], ◌∷◌, rules, sym, subst, map, Ok, Err, ap, ◌∙◌, drop}
+use Rattle.std.proofs.Common.{length, ◌≡◌, ◌+◌, ◌<◌, rules, sym, subst, map, Ok, Err, ap, ◌∙◌, drop}
 use Rattle.liszt_base.specs.Gives.{Gives}
 use Rattle.liszt_tree.specs.Tree.{expression, statement_tree, body_of, item_tree, main_of, MainIf, MainWhile, MainFor}
 use Rattle.liszt_tree.specs.declared.tree.Item.{the_lemmas}
