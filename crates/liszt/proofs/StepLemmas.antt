@@ -44,9 +44,8 @@ use Rattle.liszt_lexer.proofs.FindingLemmas.{few_with_limit}
 use Rattle.liszt_parser.proofs.FewNodes.{nodes_within}
 use Rattle.liszt_tree.specs.Tree.{program_tree}
 use Rattle.liszt_base.specs.Gives.{Gives}
-use Rattle.phase_types.specs.Checked.{CheckedProgram, checked_program, item_count}
-use Rattle.phase_types.proofs.CheckedLemmas.{only_fault, checked_is_typed, items_are_nodes}
-use Rattle.phase_types.proofs.FaultLemmas.{no_fault}
+use Rattle.phase_types.specs.Checked.{checked_program, item_count}
+use Rattle.phase_types.proofs.CheckedLemmas.{only_fault, items_are_nodes}
 
 -- The program of a text, from its tokens
 pub program_read : (text : List ℕ) (lexed : LexedText) (result : Result Tree (Refused ProgramFault)) → lexed_text text ≡ Ok lexed
@@ -220,10 +219,7 @@ all_inputs words files c program table mesh made before t u now is first second 
     go (Ok job) makes = comes (record { ended = Done; text = job_text job }) (job_finishes program mesh job makes)
     go (Err ended) makes = refusal_finishes (ResultsIn (IsLost files before now) words files) program mesh ended comes makes
 
--- a program that was checked has no fault, and one that was refused has the fault of its walk
-pub no_fault_if_checked : (tree : Main) (checked : CheckedProgram) → checked_program tree ≡ Ok checked → check_fault tree ≡ None
-no_fault_if_checked tree checked is = no_fault tree (checked_is_typed tree checked is)
-
+-- a program that was refused has the fault of its walk
 pub job_refused : (tree : Main) (mesh : MeshLists) (made : Result Job Ended) (refused : Refused ProgramFault)
     → Gives (checked_program tree) (Err refused) → made ≡ Err (ending_of program_ending refused) → MakesJob tree mesh made
 job_refused tree mesh made (Fault fault) is same =

@@ -4,8 +4,9 @@ use Rattle.liszt_tree.specs.Tree.{program_tree}
 use Rattle.std.proofs.lemmas.Result.{err_from_is_err_and}
 use Rattle.liszt.specs.Simple.{Simple}
 use Rattle.liszt.specs.Internal.SimpleReading.{simple_at}
+use Rattle.phase_types.proofs.FaultLemmas.{no_fault}
 use Rattle.liszt.proofs.SimpleLemmas.{found, not_simple}
-use Rattle.liszt.proofs.StepLemmas.{no_fault_if_checked, job_refused, value_is, value_fits, job_text_is}
+use Rattle.liszt.proofs.StepLemmas.{job_refused, value_is, value_fits, job_text_is}
 use Rattle.liszt.proofs.inputs.make_job.Goals as goal
 
 pub overflow_add-result : goal.overflow_add-result
@@ -29,13 +30,13 @@ returns c =
     let simple : Simple = record { name = s.name.now; first = s.first; added = s.added } in
     let is = found (program_tree c.args.program.now) simple (sym c.simple_of.ensures ∙ ap (option_map (λ s. record { name = s.name.now; first = s.first; added = s.added })) c.in-Some.is) in
     (simple, is, job_text_is simple c.args.mesh _ _ (search rules) (value_is s.first s.added is.first is.added),
-    no_fault_if_checked (program_tree c.args.program.now) _ c.in_ok-check.ensures.gives)
+    no_fault (program_tree c.args.program.now) c.in_ok-check.ensures.typed)
 
 pub returns-in_default : goal.returns-in_default
 returns-in_default c =
     let tree = program_tree c.args.program.now in
     let none : None ≡ simple_at tree = rw c.in_default.is at c.simple_of.ensures in
-    inr (inr (refl, not_simple tree (sym none), no_fault_if_checked tree _ c.in_ok-check.ensures.gives))
+    inr (inr (refl, not_simple tree (sym none), no_fault tree c.in_ok-check.ensures.typed))
 
 pub returns-in_err-check : goal.returns-in_err-check
 returns-in_err-check c =
