@@ -11,6 +11,7 @@ pub mod laws;
 mod names;
 mod program;
 mod resolution;
+mod shared;
 mod state;
 mod statement;
 mod values;
