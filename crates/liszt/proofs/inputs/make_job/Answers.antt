@@ -28,9 +28,12 @@ pub returns : goal.returns
 returns c =
     let s = c.in-Some.simple in
     let simple : Simple = record { name = s.name.now; first = s.first; added = s.added } in
-    let is = found (program_tree c.args.program.now) simple (sym c.simple_of.ensures ∙ ap (option_map (λ s. record { name = s.name.now; first = s.first; added = s.added })) c.in-Some.is) in
-    (simple, is, job_text_is simple c.args.mesh _ _ (search rules) (value_is s.first s.added is.first is.added),
-    no_fault (program_tree c.args.program.now) c.in_ok-check.ensures.typed)
+    let is = found (program_tree c.args.program.now) simple (sym c.simple_of.ensures ∙ ap (option_map (λ s. record { name = s.name.now; first = s.first; added = s.added })) c.in-Some.is) in (
+      simple,
+      is,
+      job_text_is simple c.args.mesh _ _ (search rules) (value_is s.first s.added is.first is.added),
+      no_fault (program_tree c.args.program.now) c.in_ok-check.ensures.typed,
+    )
 
 pub returns-in_default : goal.returns-in_default
 returns-in_default c =
