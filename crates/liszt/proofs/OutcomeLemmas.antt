@@ -24,6 +24,7 @@ use Rattle.liszt_io.specs.Causes.{Rose}
 use Rattle.liszt_io.specs.Shelves.{Files, file, Tally}
 use Rattle.liszt_base.specs.declared.answers.MeshFault.{MeshFault}
 use Rattle.liszt_base.specs.declared.mesh.Point.{Point}
+use Rattle.phase_types.specs.Walk.{check_fault}
 use Rattle.text_scan.specs.Rows.{text_rows}
 use Rattle.tet_reader.specs.Faults.{node_fault, cells_fault}
 use Rattle.tet_reader.proofs.Lists.{one_point_list, node_spelled, node_passes}
@@ -31,7 +32,7 @@ use Rattle.tet_reader.proofs.EleReading.{mesh_spelled_over, mesh_passes_over, on
 use Rattle.liszt_report.specs.declared.ended.Ended.{Ended}
 use Rattle.liszt_report.specs.declared.ended.Ended.TheVariants.{Done, Usage, Later, Program as OfProgram, Mesh, Limit, ReadFault, WriteFault, NoMemory}
 use Rattle.command_words.specs.Commands.{command_of, SeqCommand}
-use Rattle.liszt.specs.Expected.{Outcome, refusal, Within, Follows, IsProgramFault, ProgramResult, NodeResult, EleResult, TakesIn, Finishes, TakesCells, TakesPoints, Seq, ResultsIn, Expected}
+use Rattle.liszt.specs.Expected.{RunsOn, Outcome, refusal, Within, Follows, IsProgramFault, ProgramResult, NodeResult, EleResult, TakesIn, Finishes, TakesCells, TakesPoints, Seq, ResultsIn, Expected}
 use Rattle.liszt.specs.Answers.{outside, IsLost, EndsWith, Answers, HasCauses, IsOutcome}
 
 -- One outcome
@@ -121,11 +122,17 @@ one_ele table bytes (Err e) (Err f) h i =
 one_simple : (tree : Main) (s t : Simple) → IsSimple tree s → IsSimple tree t → s ≡ t
 one_simple tree s t h i = let a = again tree s h in let b = again tree t i in cc
 
+one_run : (tree : Main) (mesh : MeshLists) → IsOne (RunsOn tree mesh)
+one_run tree mesh a b (inl h) (inl i) = h.2 ∙ (ap (λ s. record { ended = Done; text = done_text s mesh }) (one_simple tree h.0 i.0 h.1 i.1) ∙ sym i.2)
+one_run tree mesh a b (inl h) (inr i) = absurd (i.0 h.0 h.1)
+one_run tree mesh a b (inr h) (inl i) = absurd (h.0 i.0 i.1)
+one_run tree mesh a b (inr h) (inr i) = h.1 ∙ sym i.1
+
 one_finish : (tree : Main) (mesh : MeshLists) → IsOne (Finishes tree mesh)
-one_finish tree mesh a b (inl h) (inl i) = h.2 ∙ (ap (λ s. record { ended = Done; text = done_text s mesh }) (one_simple tree h.0 i.0 h.1 i.1) ∙ sym i.2)
-one_finish tree mesh a b (inl h) (inr i) = absurd (i.0 h.0 h.1)
-one_finish tree mesh a b (inr h) (inl i) = absurd (h.0 i.0 i.1)
-one_finish tree mesh a b (inr h) (inr i) = h.1 ∙ sym i.1
+one_finish tree mesh = go (check_fault tree) where
+  go : (fault : Option ProgramFault) → IsOne (λ outcome. MatchOption fault (RunsOn tree mesh outcome) (λ f. outcome ≡ refusal (program_ending f)))
+  go None a b h i = one_run tree mesh a b h i
+  go (Some fault) a b h i = h ∙ sym i
 
 one_seq : (files : Files) (c : SeqCommand) → IsOne (Seq (λ n. file files n ≡ None) files c)
 one_seq files c =
@@ -232,11 +239,17 @@ some_program bytes = go (tokens_of bytes) refl where
   go (Ok ts) is = let f = some_fault (lexemes bytes ts) (end_of bytes) in at ts is f.0 f.1
   go (Err fault) is = (Err (program_ending fault), (fault, inl is, refl))
 
-some_finish : (tree : Main) (mesh : MeshLists) → (outcome : Outcome) × Finishes tree mesh outcome
-some_finish tree mesh = go (simple_at tree) refl where
-  go : (read : Option Simple) → simple_at tree ≡ read → (outcome : Outcome) × Finishes tree mesh outcome
+some_run : (tree : Main) (mesh : MeshLists) → (outcome : Outcome) × RunsOn tree mesh outcome
+some_run tree mesh = go (simple_at tree) refl where
+  go : (read : Option Simple) → simple_at tree ≡ read → (outcome : Outcome) × RunsOn tree mesh outcome
   go (Some s) is = (record { ended = Done; text = done_text s mesh }, inl (s, found tree s is, refl))
   go None is = (refusal Later, inr (λ s h. let a = again tree s h in absurd cc, refl))
+
+some_finish : (tree : Main) (mesh : MeshLists) → (outcome : Outcome) × Finishes tree mesh outcome
+some_finish tree mesh = go (check_fault tree) where
+  go : (fault : Option ProgramFault) → (outcome : Outcome) × MatchOption fault (RunsOn tree mesh outcome) (λ f. outcome ≡ refusal (program_ending f))
+  go None = some_run tree mesh
+  go (Some fault) = (refusal (program_ending fault), refl)
 
 some_node : HasSomeResult NodeResult
 some_node bytes = go (node_fault (text_rows bytes)) refl

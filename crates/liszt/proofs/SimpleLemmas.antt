@@ -148,3 +148,7 @@ again tree s h =
     same (ap not h.free) short first added in
     sym (bare_same tree) ∙ ap simple_at h.shape
     ∙ ap (λ b. if b then Some (record { name = s.name; first = s.first; added = s.added }) else None) fit
+
+-- a tree that is not read as a simple program is none
+pub not_simple : (tree : Main) → simple_at tree ≡ None → (s : Simple) → IsSimple tree s → ⊥
+not_simple tree none s simple = let is = again tree s simple in absurd cc

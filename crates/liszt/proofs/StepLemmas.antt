@@ -1,7 +1,8 @@
 -- The steps that read the inputs, joined.
-use Rattle.std.proofs.Common.{◌≡◌, ℕ, ◌≤◌, inl, inr, List, length, Option, Some, None, MatchOption, MatchResult, Result, Ok, Err, refl, sym, ap, subst, ◌∙◌, arith, ℤ, pos, ◌+ℤ◌, ◌≤ℤ◌, ◌⊎◌}
+use Rattle.std.proofs.Common.{◌≡◌, ℕ, ◌≤◌, inl, inr, List, [], length, Option, Some, None, MatchOption, MatchResult, Result, Ok, Err, refl, sym, ap, subst, ◌∙◌, arith, ℤ, pos, ◌+ℤ◌, ◌≤ℤ◌, ◌⊎◌}
 use Rattle.std.specs.Prelude.{IfOk, FitsSigned}
 use Rattle.std.proofs.lemmas.Int.{ints, to_z-of_z}
+use Rattle.std.proofs.lemmas.List.{length-map}
 use mir.Syntax.{w64}
 use mir.Val.{to_z, of_z}
 use Rattle.liszt_base.specs.declared.answers.Input.{Input}
@@ -21,18 +22,30 @@ use Rattle.liszt.specs.declared.job.Job.{Job}
 use Rattle.command_words.specs.Commands.{command_of, SeqCommand}
 use Rattle.liszt_base.specs.declared.answers.Refused.{Refused}
 use Rattle.liszt_base.specs.declared.answers.Refused.TheVariants.{Fault, NoMemory as OutOfMemory}
-use Rattle.liszt_report.specs.Endings.{ending_text, ending_of, field_text, too_long}
+use Rattle.liszt_report.specs.Endings.{ending_text, program_ending, ending_of, field_text, too_long}
 use Rattle.liszt.specs.Simple.{done_text}
-use Rattle.liszt.specs.Expected.{Outcome, refusal, Within, ProgramResult, NodeResult, EleResult, TakesIn, Finishes, TakesCells, TakesPoints, Seq, ResultsIn}
+use Rattle.liszt.specs.Expected.{Outcome, refusal, Within, ProgramResult, NodeResult, EleResult, TakesIn, RunsOn, Finishes, TakesCells, TakesPoints, Seq, ResultsIn}
 use Rattle.liszt.specs.Answers.{outside, IsLost, Answers, Wrote, HasCauses, HasShelfCause}
 use Rattle.liszt.specs.Internal.Steps.{HasStepCause, StepGives, MakesJob, Prepares, ReadsProgram, job_text}
 use Rattle.liszt_lexer.specs.Lexed.{LexedText, lexed_text}
 use Rattle.liszt_lexer.proofs.LexedTextLemmas.{lexed_parts}
-use Rattle.liszt_parser.specs.Grammar.{lexemes}
+use Rattle.liszt_parser.specs.Grammar.{lexeme, lexemes}
 use Rattle.liszt_parser.specs.ParseFault.{IsParseFault}
 use Rattle.liszt_parser.specs.ParserAnswers.{ParsesTo}
 use Rattle.liszt_tree.specs.declared.tree.Program.{Program as Tree}
 use Rattle.liszt_base.specs.declared.answers.ProgramFault.{ProgramFault}
+use Rattle.liszt_base.specs.declared.answers.ProgramWhat.{ProgramWhat}
+use Rattle.liszt_base.specs.declared.answers.ProgramWhat.TheVariants.{BadByte, LongNumber, LongName, Big, Syntax, Deep, NameUnknown, NameTwice, TypeMismatch, PhaseConflict, ScalarWrite, BuiltinWrite}
+use Rattle.phase_types.specs.Walk.{check_fault}
+use Rattle.liszt_base.specs.Limits.{token_limit}
+use Rattle.liszt_lexer.specs.Lexer.{tokens_of, pieces, findings_after}
+use Rattle.liszt_lexer.specs.declared.token.Token.{Token}
+use Rattle.liszt_lexer.proofs.FindingLemmas.{few_with_limit}
+use Rattle.liszt_parser.proofs.FewNodes.{nodes_within}
+use Rattle.liszt_tree.specs.Tree.{program_tree}
+use Rattle.liszt_base.specs.Gives.{Gives}
+use Rattle.phase_types.specs.Checked.{checked_program, item_count}
+use Rattle.phase_types.proofs.CheckedLemmas.{only_fault, items_are_nodes}
 
 -- The program of a text, from its tokens
 pub program_read : (text : List ℕ) (lexed : LexedText) (result : Result Tree (Refused ProgramFault)) → lexed_text text ≡ Ok lexed
@@ -42,6 +55,21 @@ program_read text lexed (Err (Fault fault)) is parsed =
     let p = lexed_parts text lexed is in
     inr (lexed.tokens, p.0, subst (λ e. IsParseFault (lexemes text lexed.tokens) e (Some fault)) p.1 parsed)
 program_read text lexed (Err OutOfMemory) is parsed = tt
+
+-- A program that is read has at most as many items as tokens.
+few_tokens : (text : List ℕ) (tokens : List Token) → tokens_of text ≡ Ok tokens → length tokens ≤ token_limit
+few_tokens text tokens is =
+    let le : 0 ≤ token_limit = omega arith in
+    omega (arith, few_with_limit 0 (findings_after [] (pieces text)) tokens le is)
+
+pub few_items : (text : List ℕ) (result : Result Tree (Refused ProgramFault)) → ReadsProgram text result
+    → IfOk result (λ program. item_count (program_tree program) ≤ token_limit)
+few_items text (Ok program) read =
+    let tokens = few_tokens text read.0 read.1 in
+    let nodes = nodes_within (lexemes text read.0) (program_tree program) read.2 in
+    let long : length (lexemes text read.0) ≡ length read.0 = length-map read.0 (lexeme text) in
+    omega (arith, tokens, nodes, items_are_nodes (program_tree program), long)
+few_items text (Err refused) read = tt
 
 -- From the bytes of an input to their result
 
@@ -155,15 +183,24 @@ pub job_text_is : (simple : Simple) (mesh : MeshLists) (name : List ℕ) (value 
 job_text_is simple mesh name value e f =
     ap (λ (n : List ℕ). field_text n (λ _. value) (length mesh.cells)) e ∙ ap (λ (v : ℤ). field_text simple.name (λ _. v) (length mesh.cells)) f
 
+-- the outcome of a typed program is that of its run
+typed_finishes : (tree : Main) (mesh : MeshLists) (outcome : Outcome) → check_fault tree ≡ None → RunsOn tree mesh outcome → Finishes tree mesh outcome
+typed_finishes tree mesh outcome none runs =
+    subst (λ fault. MatchOption fault (RunsOn tree mesh outcome) (λ f. outcome ≡ refusal (program_ending f))) (sym none) runs
+
 -- the outcome of a job, or of the refusal to make one
 job_finishes : (tree : Main) (mesh : MeshLists) (job : Job) → MakesJob tree mesh (Ok job)
     → Finishes tree mesh (record { ended = Done; text = job_text job })
-job_finishes tree mesh job made = inl (made.0, made.1, ap done_with made.2)
+job_finishes tree mesh job made = typed_finishes tree mesh (record { ended = Done; text = job_text job }) made.3 (inl (made.0, made.1, ap done_with made.2))
 
 refusal_finishes : (Comes : Outcome → Type 0) (tree : Main) (mesh : MeshLists) (ended : Ended) → ((outcome : Outcome) → Finishes tree mesh outcome → Comes outcome)
     → MakesJob tree mesh (Err ended) → (ended ≡ NoMemory) ⊎ Comes (refusal ended)
 refusal_finishes Comes tree mesh ended comes (inl memory) = inl memory
-refusal_finishes Comes tree mesh ended comes (inr later) = inr (comes (refusal ended) (inr (later.1, ap refusal later.0)))
+refusal_finishes Comes tree mesh ended comes (inr (inl faulty)) =
+    inr (comes (refusal ended)
+    (subst (λ fault. MatchOption fault (RunsOn tree mesh (refusal ended)) (λ f. refusal ended ≡ refusal (program_ending f))) (sym faulty.1) (ap refusal faulty.2)))
+refusal_finishes Comes tree mesh ended comes (inr (inr later)) =
+    inr (comes (refusal ended) (typed_finishes tree mesh (refusal ended) later.2 (inr (later.1, ap refusal later.0))))
 
 pub all_inputs : (words : List (List ℕ)) (files : Files) (c : SeqCommand) (program : Main) (table : PointTable) (mesh : MeshLists) (made : Result Job Ended) (before t u now : Tally) → command_of words ≡ Some c
     → StepGives files Program c.program ProgramResult before t (Ok program) → StepGives files Node c.node NodeResult t u (Ok table)
@@ -182,17 +219,59 @@ all_inputs words files c program table mesh made before t u now is first second 
     go (Ok job) makes = comes (record { ended = Done; text = job_text job }) (job_finishes program mesh job makes)
     go (Err ended) makes = refusal_finishes (ResultsIn (IsLost files before now) words files) program mesh ended comes makes
 
+-- a program that was refused has the fault of its walk
+pub job_refused : (tree : Main) (mesh : MeshLists) (made : Result Job Ended) (refused : Refused ProgramFault)
+    → Gives (checked_program tree) (Err refused) → made ≡ Err (ending_of program_ending refused) → MakesJob tree mesh made
+job_refused tree mesh made (Fault fault) is same =
+    subst (MakesJob tree mesh) (sym same) (inr (inl (fault, only_fault tree fault is, refl)))
+job_refused tree mesh made OutOfMemory is same = subst (MakesJob tree mesh) (sym same) (inl refl)
+
+-- the ending of a program's fault is neither Usage nor a fault of the shelf
+program_cause : (shelf shelf' : ℕ) (fault : ProgramFault) → shelf' ≡ shelf → HasStepCause {A = Job} shelf shelf' (Err (program_ending fault))
+program_cause shelf shelf' fault same = go fault.what where
+  go : (what : ProgramWhat) → HasStepCause {A = Job} shelf shelf' (Err (program_ending (record { what = what; place = fault.place; first = fault.first })))
+  go BadByte = same
+  go LongNumber = same
+  go LongName = same
+  go Big = same
+  go Syntax = same
+  go Deep = same
+  go NameUnknown = same
+  go NameTwice = same
+  go TypeMismatch = same
+  go PhaseConflict = same
+  go ScalarWrite = same
+  go BuiltinWrite = same
+
+program_no_usage : (fault : ProgramFault) → program_ending fault ≡ Usage → ⊥
+program_no_usage fault = go fault.what where
+  go : (what : ProgramWhat) → program_ending (record { what = what; place = fault.place; first = fault.first }) ≡ Usage → ⊥
+  go BadByte is = absurd cc
+  go LongNumber is = absurd cc
+  go LongName is = absurd cc
+  go Big is = absurd cc
+  go Syntax is = absurd cc
+  go Deep is = absurd cc
+  go NameUnknown is = absurd cc
+  go NameTwice is = absurd cc
+  go TypeMismatch is = absurd cc
+  go PhaseConflict is = absurd cc
+  go ScalarWrite is = absurd cc
+  go BuiltinWrite is = absurd cc
+
 -- the other clauses of a job
 pub job_cause : (shelf shelf' : ℕ) (tree : Main) (mesh : MeshLists) (made : Result Job Ended) → MakesJob tree mesh made → shelf' ≡ shelf
     → HasStepCause shelf shelf' made
 job_cause shelf shelf' tree mesh (Ok job) makes same = same
 job_cause shelf shelf' tree mesh (Err ended) (inl memory) same = subst (λ (e : Ended). HasStepCause {A = Job} shelf shelf' (Err e)) (sym memory) same
-job_cause shelf shelf' tree mesh (Err ended) (inr later) same = subst (λ (e : Ended). HasStepCause {A = Job} shelf shelf' (Err e)) (sym later.0) same
+job_cause shelf shelf' tree mesh (Err ended) (inr (inl faulty)) same = subst (λ (e : Ended). HasStepCause {A = Job} shelf shelf' (Err e)) (sym faulty.2) (program_cause shelf shelf' faulty.0 same)
+job_cause shelf shelf' tree mesh (Err ended) (inr (inr later)) same = subst (λ (e : Ended). HasStepCause {A = Job} shelf shelf' (Err e)) (sym later.0) same
 
 pub job_no_usage : (tree : Main) (mesh : MeshLists) (made : Result Job Ended) → MakesJob tree mesh made → made ≡ Err Usage → ⊥
 job_no_usage tree mesh (Ok job) makes is = absurd cc
 job_no_usage tree mesh (Err ended) (inl memory) is = absurd cc
-job_no_usage tree mesh (Err ended) (inr later) is = let l = later.0 in absurd cc
+job_no_usage tree mesh (Err ended) (inr (inl faulty)) is = let same : program_ending faulty.0 ≡ Usage = sym faulty.2 ∙ err_is ended Usage is in program_no_usage faulty.0 same
+job_no_usage tree mesh (Err ended) (inr (inr later)) is = let l = later.0 in absurd cc
 
 pub made_job : (tree : Main) (mesh : MeshLists) (made : Result Job Ended) → MakesJob tree mesh made
     → IfOk made (λ job. (simple : Simple) × (m : MeshLists) × (job_text job ≡ done_text simple m))

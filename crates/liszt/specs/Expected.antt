@@ -12,6 +12,7 @@ use Rattle.liszt_lexer.specs.declared.token.Token.{Token}
 use Rattle.liszt_parser.specs.Grammar.{lexemes, Derives}
 use Rattle.liszt_parser.specs.ParseFault.{IsShallow, IsParseFault}
 use Rattle.liszt_tree.specs.Tree.{Main}
+use Rattle.phase_types.specs.Walk.{check_fault}
 use Rattle.text_scan.specs.Rows.{text_rows}
 use Rattle.tet_reader.specs.Answers.{SpellTable, SpellMesh}
 use Rattle.tet_reader.specs.Faults.{node_fault, cells_fault}
@@ -83,12 +84,17 @@ TakesIn {A} IsMissing files input name HasResult Continues outcome =
     ⊎ ((bytes : List ℕ) × (result : Result A Ended) × (file files name ≡ Some bytes)
     × Within input HasResult bytes result × Follows Continues result outcome)
 
--- A simple program is run on the mesh; each other program is for later.
-abbrev pub Finishes : Main → MeshLists → Outcome → Type 0
-Finishes tree mesh outcome =
+-- A typed program that is simple is run on the mesh; each other typed program is for later.
+abbrev pub RunsOn : Main → MeshLists → Outcome → Type 0
+RunsOn tree mesh outcome =
     ((simple : Simple) × IsSimple tree simple
     × (outcome ≡ record { ended = Done; text = done_text simple mesh }))
     ⊎ (((simple : Simple) → IsSimple tree simple → ⊥) × (outcome ≡ refusal Later))
+
+-- A program with a fault of the checker is refused, whatever the mesh.
+abbrev pub Finishes : Main → MeshLists → Outcome → Type 0
+Finishes tree mesh outcome =
+    MatchOption (check_fault tree) (RunsOn tree mesh outcome) (λ fault. outcome ≡ refusal (program_ending fault))
 
 abbrev pub TakesCells : (List ℕ → Type 0) → Files → SeqCommand → Main → PointTable → Outcome → Type 0
 TakesCells IsMissing files c tree table = TakesIn IsMissing files Ele c.ele (EleResult table) (Finishes tree)

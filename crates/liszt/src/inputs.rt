@@ -4,9 +4,10 @@ ghost use Rattle.liszt_io.specs.Shelves.{Files};
 ghost use Rattle.liszt_report.specs.declared.ended.Ended.TheVariants.{Usage};
 ghost use Rattle.command_words.specs.Commands.{command_of};
 ghost use Rattle.liszt_base.specs.MeshLists.{MeshLists};
-ghost use Rattle.liszt_base.specs.Limits.{file_limit};
+ghost use Rattle.liszt_base.specs.Limits.{file_limit, token_limit};
 ghost use Rattle.liszt.specs.Simple.{Simple, done_text};
 ghost use Rattle.liszt_tree.specs.Tree.{program_tree};
+ghost use Rattle.phase_types.specs.Checked.{item_count};
 ghost use Rattle.liszt.specs.Expected.{ProgramResult, NodeResult, EleResult};
 ghost use Rattle.liszt.specs.Internal.Steps.{HasStepCause, StepGives, IsItself, AreItsRows, MakesJob, Prepares, ReadsProgram, as_tree, job_text};
 
@@ -21,6 +22,7 @@ use liszt_lexer::tokens;
 use liszt_parser::parse;
 use liszt_report::Ended;
 use liszt_tree::{Name, Program};
+use phase_types::check;
 use std::alloc::Global;
 use tet_reader::{read_cells, read_points};
 use text_scan::{Rows, rows_of};
@@ -45,10 +47,13 @@ pub fn prepare<F: Shelf>(alloc: Global, words: &WordList, shelf: &mut F) -> Resu
     make_job(alloc, &program, mesh)
 }
 
-/// The job of a simple program on a mesh. Other programs do not run yet.
+/// The job of a simple program on a mesh. Other typed programs do not run yet. An `Err` is the ending for the first fault of a
+/// program that is not typed, or `Later`.
 fn make_job(alloc: Global, program: &Program, mesh: RawMesh) -> Result<Job, Ended>
+    requires { item_count (program_tree program.now) ≤ token_limit }
     ensures { MakesJob (program_tree program.now) mesh result }
 {
+    check(alloc, program)?;
     let Some(simple) = simple_of(program) else {
         return Err(Ended::Later);
     };
@@ -66,6 +71,7 @@ fn read_program_file<F: Shelf>(alloc: Global, shelf: &mut F, name: &str) -> Resu
     ensures contents { F.contents shelf.new ≡ F.contents shelf.old }
     ensures cause { HasStepCause (F.faults shelf.old) (F.faults shelf.new) result }
     ensures not_usage { result ≡ Err Usage → ⊥ }
+    ensures few { IfOk result (λ program. item_count (program_tree program) ≤ token_limit) }
     ensures answers { (files : Files) → F.contents shelf.old ≡ Some files
         → StepGives files TheProgram name.now ProgramResult (F.tally shelf.old) (F.tally shelf.new)
         (as_tree result) }
@@ -77,7 +83,8 @@ fn read_program_file<F: Shelf>(alloc: Global, shelf: &mut F, name: &str) -> Resu
 /// The program that a text spells, or the first fault of its tokens, or else of its grammar.
 fn read_program(alloc: Global, text: &[u8]) -> Result<Program, Refused<ProgramFault>>
     requires { length text.now < 2 ^ 31 }
-    ensures { ReadsProgram text.now result }
+    ensures reads { ReadsProgram text.now result }
+    ensures few { IfOk result (λ program. item_count (program_tree program) ≤ token_limit) }
 {
     let tokens = tokens(alloc, text)?;
     parse(alloc, text, &tokens)

@@ -43,7 +43,7 @@ binds_later site later same on h = record {
       (denotes_later site.parts on.rest name binding (h.denotes name binding (ap (λ environment. binding_of environment name) (sym same) ∙ e)));
 }
 
-equal_bytes : (xs ys : List ℕ) → bytes_eq xs ys ≡ true → xs ≡ ys
+pub equal_bytes : (xs ys : List ℕ) → bytes_eq xs ys ≡ true → xs ≡ ys
 equal_bytes xs ys e = (bytes_eq-Decides xs ys).0 e
 
 -- THE FIRST BINDING of an environment is that of its name, and the others are those of the rest

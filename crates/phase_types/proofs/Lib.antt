@@ -1,6 +1,13 @@
 pub mod BindingLemmas
+pub mod BodyLemmas
+pub mod CheckedLemmas
+pub mod ConflictLemmas
 pub mod FaultLemmas
+pub mod LoopLemmas
 pub mod ModeLemmas
+pub mod NameLemmas
 pub mod PartLemmas
+pub mod ResolveLemmas
 pub mod StepLemmas
 pub mod TypeLemmas
+pub mod WalkLemmas

@@ -32,7 +32,7 @@ same_op Xor = refl
 same_op Min = refl
 same_op Max = refl
 
-modes_are : (mode other : Mode) → is_mode mode other ≡ true → mode ≡ other
+pub modes_are : (mode other : Mode) → is_mode mode other ≡ true → mode ≡ other
 modes_are Read Read e = refl
 modes_are Write Write e = refl
 modes_are (Reduce op) (Reduce other) e = ap Reduce (ops_are op other e)

@@ -1,5 +1,7 @@
+pub mod Checked
 pub mod Environments
 pub mod Internal
+pub mod Resolve
 pub mod Typed
 pub mod Types
 pub mod Walk

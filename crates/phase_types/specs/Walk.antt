@@ -1,6 +1,6 @@
 -- The walk through a program, its accesses, and its first fault. This project's own; that a field has one mode in a comprehension
 -- is the Liszt paper's (DeVito et al., Supercomputing 2011).
-use Rattle.std.specs.Prelude.{ℕ, ◌==◌, not, Bool, true, false, if◌then◌else◌, Option, Some, None, is_some, List, [], ◌∷◌, ◌++◌, map}
+use Rattle.std.specs.Prelude.{ℕ, not, Bool, true, false, if◌then◌else◌, Option, Some, None, is_some, List, [], ◌∷◌, ◌++◌, map}
 use Rattle.std.specs.List.{find, filter, filter_map, list_any}
 use Rattle.std.specs.Option.{option_and_then, option_map}
 use Rattle.liszt_base.specs.Kinds.{has_set, kind_of}
@@ -18,24 +18,14 @@ use Rattle.liszt_tree.specs.declared.tree.How.TheVariants.{Set, Fold, Less}
 use Rattle.liszt_tree.specs.Tree.{Expression, Number, Name, Field, Call, Towards, Neg, Not, Chain, Compare, Links, no_links, link}
 use Rattle.liszt_tree.specs.Tree.{Statement, Var, Val, Assign, If, While, For, Body, no_statement, statement}
 use Rattle.liszt_tree.specs.Tree.{MainItem, MainField, MainVar, MainAssign, MainIf, MainWhile, MainFor, Print, Main, no_item, item}
+pub use Rattle.resolved_code.specs.Accesses.{is_subject}
+pub use Rattle.resolved_code.specs.declared.accesses.AccessAt.{AccessAt}
+pub use Rattle.resolved_code.specs.declared.accesses.Subject.{Subject}
+pub use Rattle.resolved_code.specs.declared.accesses.Subject.TheVariants.{Field as OfField, Scalar as OfScalar}
 use Rattle.phase_types.specs.Environments.{Environment, Binding, FieldName, ScalarName, LocalName, ElementName, binding_of, is_built_in, Comprehension, Site, start, after_item, comprehension_at, block_start, after_block, after_main, comprehension_of}
 use Rattle.phase_types.specs.Types.{ValueType, NumberType, TruthType, ElementType, is_type, type_of, operator_type}
 
 -- ACCESSES of a comprehension: to a field or a scalar of the main program, in a mode, at a place
-pub data Subject : Type 0 where
-  OfField : ℕ → Subject
-  OfScalar : ℕ → Subject
-
-abbrev pub is_subject : Subject → Subject → Bool
-is_subject (OfField number) (OfField other) = number == other
-is_subject (OfScalar number) (OfScalar other) = number == other
-is_subject _ _ = false
-
-pub record AccessAt : Type 0 where
-  pub subject : Subject
-  pub mode : Mode
-  pub place : Place
-
 abbrev pub is_op : Op → Op → Bool
 is_op Add Add = true
 is_op Mul Mul = true

@@ -1,7 +1,9 @@
 //! Laws of the definitions, each the contract of a function that does nothing.
 
-ghost use Rattle.std.specs.Prelude.{◌≡◌, ℕ, Some, None, List, ◌∷◌, ◌++◌, length, slice_get};
-ghost use Rattle.liszt_tree.specs.Tree.{Expression, Main, MainItem};
+ghost use Rattle.std.specs.Prelude.{◌≡◌, ◌≤◌, ℕ, Some, None, List, ◌∷◌, ◌++◌, length, slice_get, Ok, Err};
+ghost use Rattle.liszt_base.specs.declared.answers.ProgramFault.{ProgramFault};
+ghost use Rattle.liszt_tree.specs.Tree.{Expression, Main, MainItem, main_nodes};
+ghost use Rattle.phase_types.specs.Checked.{CheckedProgram, checked_program, item_count, HasPartsOf, IsWithin};
 ghost use Rattle.phase_types.specs.Environments.{Environment, Binding, binding_of, Site, start, Part, FieldPart, ScalarPart, ComprehensionPart, ScopePart, Comprehension, IsPrefix, DenotesPart, BindsParts, block_start, after_item, after_main, fields_in, scalars_in, comprehensions_in, scopes_in};
 ghost use Rattle.phase_types.specs.declared.info.FieldInfo.{FieldInfo as Info};
 ghost use Rattle.phase_types.specs.Typed.{IsTyped, ItemFits, MainFits};
@@ -60,4 +62,26 @@ pub fn bindings_denote_parts()
     ensures unchanged_by_items { (site : Site) (program : Main) (name : List ℕ) (binding : Binding)
         → MainFits site program → binding_of site.environment name ≡ Some binding
         → binding_of (after_main site program).environment name ≡ Some binding }
+{}
+
+/// A program has a checked program if and only if it is typed, and else its fault is the first one of its walk.
+pub fn checked_programs_are_typed()
+    ensures fault { (program : Main) (fault : ProgramFault) → check_fault program ≡ Some fault
+        → checked_program program ≡ Err fault }
+    ensures only_fault { (program : Main) (fault : ProgramFault)
+        → checked_program program ≡ Err fault → check_fault program ≡ Some fault }
+    ensures typed { (program : Main) (checked : CheckedProgram)
+        → checked_program program ≡ Ok checked → IsTyped program }
+    ensures checked { (program : Main) → IsTyped program
+        → (checked : CheckedProgram) × (checked_program program ≡ Ok checked) }
+{}
+
+/// A checked program has the parts of its tree, by the same numbers, with the modes of each comprehension; it has at most as many
+/// fields, scalars and comprehensions as the tree has items, and a tree has at most as many items as nodes.
+pub fn checked_programs_have_their_parts()
+    ensures parts { (program : Main) (checked : CheckedProgram)
+        → checked_program program ≡ Ok checked → HasPartsOf program checked }
+    ensures within { (program : Main) (checked : CheckedProgram)
+        → checked_program program ≡ Ok checked → IsWithin (item_count program) checked }
+    ensures items { (program : Main) → item_count program ≤ main_nodes program }
 {}

@@ -1,5 +1,5 @@
 -- What the steps before the text answer. Private functions' contracts cite it.
-use Rattle.std.specs.Prelude.{◌≡◌, ℕ, ◌⊎◌, List, length, Some, Result, Ok, Err}
+use Rattle.std.specs.Prelude.{◌≡◌, ℕ, ◌⊎◌, List, length, Some, None, Result, Ok, Err}
 use Rattle.liszt_base.specs.MeshLists.{MeshLists}
 use Rattle.liszt_base.specs.declared.answers.Input.{Input}
 use Rattle.liszt_base.specs.declared.answers.ProgramFault.{ProgramFault}
@@ -9,9 +9,10 @@ use Rattle.liszt_io.specs.Causes.{Rose}
 use Rattle.liszt_io.specs.Shelves.{Files, file, Tally}
 use Rattle.liszt_report.specs.declared.ended.Ended.{Ended}
 use Rattle.liszt_report.specs.declared.ended.Ended.TheVariants.{Done, Later, ReadFault, WriteFault, NoMemory}
-use Rattle.liszt_report.specs.Endings.{field_text}
+use Rattle.liszt_report.specs.Endings.{field_text, program_ending}
 use Rattle.liszt_tree.specs.declared.tree.Program.{Program}
 use Rattle.liszt_tree.specs.Tree.{Main, program_tree}
+use Rattle.phase_types.specs.Walk.{check_fault}
 use Rattle.text_scan.specs.Rows.{TextRows, text_rows}
 use Rattle.liszt.specs.declared.job.Job.{Job}
 use Rattle.liszt.specs.Answers.{IsLost}
@@ -55,11 +56,15 @@ AreItsRows bytes (Err ended) = ⊥
 abbrev pub job_text : Job → List ℕ
 job_text job = field_text job.name (λ _. job.value) (length job.mesh.cells)
 
--- A program on a mesh is a job that writes the text of a simple program, or it does not run yet.
+-- A typed program on a mesh is a job that writes the text of a simple program, or it does not run yet. A program with a
+-- fault is refused.
 abbrev pub MakesJob : Main → MeshLists → Result Job Ended → Type 0
-MakesJob tree mesh (Ok job) = (simple : Simple) × IsSimple tree simple × (job_text job ≡ done_text simple mesh)
+MakesJob tree mesh (Ok job) =
+    (simple : Simple) × IsSimple tree simple × (job_text job ≡ done_text simple mesh) × (check_fault tree ≡ None)
 MakesJob tree mesh (Err ended) =
-    (ended ≡ NoMemory) ⊎ ((ended ≡ Later) × ((simple : Simple) → IsSimple tree simple → ⊥))
+    (ended ≡ NoMemory)
+    ⊎ (((fault : ProgramFault) × (check_fault tree ≡ Some fault) × (ended ≡ program_ending fault))
+    ⊎ ((ended ≡ Later) × ((simple : Simple) → IsSimple tree simple → ⊥) × (check_fault tree ≡ None)))
 
 -- The result of a program's text is its tree or its first fault.
 abbrev pub ReadsProgram : List ℕ → Result Program (Refused ProgramFault) → Type 0
