@@ -1,6 +1,7 @@
--- The machine of a batch: words, and workers with lists of acts and a register each. One event is the first remaining act of one
--- worker. This project's own.
-use Rattle.std.specs.Prelude.{◌≡◌, ◌≢◌, ◌⊎◌, ◌<◌, ℕ, suc, ℤ, pos, Bool, true, false, List, [], ◌∷◌, set, get_or, length, map, slice_get, All}
+-- The machine of a batch: words, and workers with lists of acts and a register
+-- each. One event is the first remaining act of one worker. This project's own.
+use Rattle.std.specs.Prelude.{◌≡◌, ◌≢◌, ◌⊎◌, ◌<◌, ℕ, suc, ℤ, pos, Bool, true, false}
+use Rattle.std.specs.Prelude.{List, [], ◌∷◌, set, get_or, length, map, slice_get, All}
 use Rattle.std.specs.declared.option.Option.{Option}
 use Rattle.std.specs.declared.option.Option.TheVariants.{None, Some}
 use Rattle.liszt_base.specs.Reductions.{fold}
@@ -54,7 +55,8 @@ abbrev pub step_with : Machine → ℕ → Worker → List Act → Machine
 step_with m i worker [] = m
 step_with m i worker (a ∷ acts) = record {
   words = words_after m.words worker.register a;
-  workers = set m.workers i record { register = register_after m.words worker.register a; acts = acts };
+  workers =
+      set m.workers i record { register = register_after m.words worker.register a; acts = acts };
 }
 
 abbrev pub step_of : Machine → ℕ → Option Worker → Machine
@@ -84,12 +86,14 @@ answer m i = answer_of (slice_get m.workers i)
 -- the words after one worker alone has finished its acts
 abbrev pub words_when_finished : List ℤ → ℤ → List Act → List ℤ
 words_when_finished words register [] = words
-words_when_finished words register (a ∷ acts) = words_when_finished (words_after words register a) (register_after words register a) acts
+words_when_finished words register (a ∷ acts) =
+    words_when_finished (words_after words register a) (register_after words register a) acts
 
 -- the words after the first worker alone has finished, then the second, and so on
 abbrev pub words_when_all_finished : List ℤ → List Worker → List ℤ
 words_when_all_finished words [] = words
-words_when_all_finished words (worker ∷ workers) = words_when_all_finished (words_when_finished words worker.register worker.acts) workers
+words_when_all_finished words (worker ∷ workers) =
+    words_when_all_finished (words_when_finished words worker.register worker.acts) workers
 
 abbrev pub sequential_result : Machine → List ℤ
 sequential_result m = words_when_all_finished m.words m.workers
@@ -118,17 +122,23 @@ is_read (Load w) = false
 is_read (Put w value) = false
 is_read (Fold w op value) = false
 
--- each Fold is directly after a Load of its word, or is first while the register is the word's value
+-- each Fold is directly after a Load of its word, or is
+-- first while the register is the word's value
 abbrev pub FoldsAreLoaded : List ℤ → Worker → Type 0
-FoldsAreLoaded words worker = (k w : ℕ) (op : _) (value : ℤ) → slice_get worker.acts k ≡ Some (Fold w op value)
-    → ((j : ℕ) × (k ≡ suc j) × (slice_get worker.acts j ≡ Some (Load w))) ⊎ ((k ≡ 0) × (worker.register ≡ value_at words w))
+FoldsAreLoaded words worker =
+    (k w : ℕ) (op : _) (value : ℤ) → slice_get worker.acts k ≡ Some (Fold w op value)
+    → ((j : ℕ) × (k ≡ suc j) × (slice_get worker.acts j ≡ Some (Load w)))
+    ⊎ ((k ≡ 0) × (worker.register ≡ value_at words w))
 
--- A word in a Put, Load or Fold of one worker is in no act of another. A word in a Read is in no Put, Load or Fold. Each Fold folds
--- the value of its word.
+-- A word in a Put, Load or Fold of one worker is in no act of another. A word
+-- in a Read is in no Put, Load or Fold. Each Fold folds the value of its word.
 pub record Apart (m : Machine) : Type 0 where
-  pub separate : (i j : ℕ) (a b : Act) → i ≢ j → Remains m i a → Remains m j b → is_read a ≡ false → word a ≢ word b
-  pub read_only : (i j : ℕ) (a b : Act) → Remains m i a → Remains m j b → is_read a ≡ true → is_read b ≡ false → word a ≢ word b
-  pub folds : (i : ℕ) (worker : Worker) → slice_get m.workers i ≡ Some worker → FoldsAreLoaded m.words worker
+  pub separate : (i j : ℕ) (a b : Act) → i ≢ j → Remains m i a → Remains m j b → is_read a ≡ false
+      → word a ≢ word b
+  pub read_only : (i j : ℕ) (a b : Act) → Remains m i a → Remains m j b → is_read a ≡ true
+      → is_read b ≡ false → word a ≢ word b
+  pub folds : (i : ℕ) (worker : Worker) → slice_get m.workers i ≡ Some worker
+      → FoldsAreLoaded m.words worker
 
 -- a Read of the word remains
 abbrev pub Reads : Machine → ℕ → Type 0

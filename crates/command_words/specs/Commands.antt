@@ -1,5 +1,6 @@
 -- The command line. This project's own.
-use Rattle.std.specs.Prelude.{ℕ, ◌==◌, ◌&&◌, nat_le, if◌then◌else◌, Bool, false, not, List, [], ◌∷◌, ◌++◌, length, codes, Option, Some, None, find}
+use Rattle.std.specs.Prelude.{ℕ, ◌==◌, ◌&&◌, nat_le, if◌then◌else◌, Bool, false, not, List}
+use Rattle.std.specs.Prelude.{[], ◌∷◌, ◌++◌, length, codes, Option, Some, None, find}
 use Rattle.std.specs.List.{list_all}
 use Rattle.std.specs.Char.{is_ascii_digit}
 use Rattle.std.specs.Option.{option_map, option_and_then, option_or}
@@ -8,7 +9,8 @@ use Rattle.std.specs.Str.Parse.{digits_value}
 use Rattle.liszt_base.specs.Limits.{turn_limit, default_turns}
 use Rattle.command_words.specs.declared.command.Command.{Command}
 use Rattle.command_words.specs.declared.options.OptionName.{OptionName}
-use Rattle.command_words.specs.declared.options.OptionName.TheVariants.{Workers, Ranks, Parts, Turns}
+use Rattle.command_words.specs.declared.options.OptionName.TheVariants.{Workers, Ranks}
+use Rattle.command_words.specs.declared.options.OptionName.TheVariants.{Parts, Turns}
 
 -- OPTIONS, each with a value
 abbrev pub option_word : OptionName → List ℕ
@@ -28,7 +30,8 @@ after_prefix (b ∷ front) (c ∷ word) = if c == b then after_prefix front word
 
 -- The option that the word is.
 abbrev pub option_of : List ℕ → Option OptionName
-option_of word = find (λ name. bytes_eq word (option_word name)) (Workers ∷ Ranks ∷ Parts ∷ Turns ∷ [])
+option_of word =
+    find (λ name. bytes_eq word (option_word name)) (Workers ∷ Ranks ∷ Parts ∷ Turns ∷ [])
 
 -- The option and the value of a word `--NAME=VALUE`, where the value is not empty.
 abbrev pub nonempty_value : List ℕ → Option (List ℕ)
@@ -36,17 +39,23 @@ nonempty_value [] = None
 nonempty_value (b ∷ bytes) = Some (b ∷ bytes)
 
 abbrev pub given_option : OptionName → List ℕ → Option GivenOption
-given_option name word = option_map (λ value. (name, value)) (option_and_then nonempty_value (after_prefix (option_word name ++ codes "=") word))
+given_option name word =
+    option_map (λ value. (name, value))
+    (option_and_then nonempty_value (after_prefix (option_word name ++ codes "=") word))
 
 abbrev pub option_with_value : List ℕ → Option GivenOption
-option_with_value word = option_or (given_option Workers word) (option_or (given_option Ranks word) (option_or (given_option Parts word) (given_option Turns word)))
+option_with_value word =
+    option_or (given_option Workers word)
+    (option_or (given_option Ranks word)
+    (option_or (given_option Parts word) (given_option Turns word)))
 
 -- The word is not empty and does not start with `-`.
 abbrev pub is_name : List ℕ → Bool
 is_name [] = false
 is_name (b ∷ bytes) = not (b == 45)
 
--- WORDS are options with their values, and plain words, in their order. The value of a word that is an option is the next word.
+-- WORDS are options with their values, and plain words, in their
+-- order. The value of a word that is an option is the next word.
 pub record SortedWords : Type 0 where
   pub options : List GivenOption
   pub plain : List (List ℕ)
@@ -57,24 +66,30 @@ with_option option sorted = record { options = option ∷ sorted.options; plain 
 abbrev pub with_plain : List ℕ → SortedWords → SortedWords
 with_plain word sorted = record { options = sorted.options; plain = word ∷ sorted.plain }
 
--- The words with a first word that is an option, an option with a value, a plain word, or no word of a command.
-abbrev pub sorted_words_with : Option OptionName → Option GivenOption → List ℕ → (Option OptionName → Option SortedWords) → Option SortedWords
+-- The words with a first word that is an option, an option
+-- with a value, a plain word, or no word of a command.
+abbrev pub sorted_words_with : Option OptionName → Option GivenOption → List ℕ
+    → (Option OptionName → Option SortedWords) → Option SortedWords
 sorted_words_with (Some name) given word rest = rest (Some name)
 sorted_words_with None (Some given) word rest = option_map (with_option given) (rest None)
-sorted_words_with None None word rest = if is_name word then option_map (with_plain word) (rest None) else None
+sorted_words_with None None word rest =
+    if is_name word then option_map (with_plain word) (rest None) else None
 
 -- The words after an option whose value is the next word, or after none.
 abbrev pub sorted_words_after : List (List ℕ) → Option OptionName → Option SortedWords
 sorted_words_after [] None = Some (record { options = []; plain = [] })
 sorted_words_after [] (Some name) = None
 sorted_words_after (value ∷ words) (Some name) =
-    if is_name value then option_map (with_option (name, value)) (sorted_words_after words None) else None
-sorted_words_after (word ∷ words) None = sorted_words_with (option_of word) (option_with_value word) word (sorted_words_after words)
+    if is_name value then option_map (with_option (name, value)) (sorted_words_after words None)
+    else None
+sorted_words_after (word ∷ words) None =
+    sorted_words_with (option_of word) (option_with_value word) word (sorted_words_after words)
 
 -- NUMBERS: 1 to 10 digits, with a value within bounds
 abbrev pub number_in : ℕ → ℕ → List ℕ → Option ℕ
 number_in least most word =
-    if nat_le 1 (length word) && nat_le (length word) 10 && list_all is_ascii_digit word && nat_le least (digits_value 10 word)
+    if nat_le 1 (length word) && nat_le (length word) 10 && list_all is_ascii_digit word
+    && nat_le least (digits_value 10 word)
     && nat_le (digits_value 10 word) most
     then Some (digits_value 10 word)
     else None
@@ -88,7 +103,8 @@ pub record SeqCommand : Type 0 where
 
 -- The command of the code as one of the definitions.
 abbrev pub seq_command : Command → SeqCommand
-seq_command c = record { program = c.program.now; node = c.node.now; ele = c.ele.now; turns = c.turns }
+seq_command c =
+    record { program = c.program.now; node = c.node.now; ele = c.ele.now; turns = c.turns }
 
 abbrev pub turns_in : List GivenOption → Option ℕ
 turns_in [] = Some default_turns
@@ -97,7 +113,8 @@ turns_in options = None
 
 abbrev pub seq_in : List (List ℕ) → ℕ → Option SeqCommand
 seq_in (mode ∷ program ∷ node ∷ ele ∷ []) turns =
-    if bytes_eq mode (codes "seq") then Some (record { program = program; node = node; ele = ele; turns = turns }) else None
+    if bytes_eq mode (codes "seq")
+    then Some (record { program = program; node = node; ele = ele; turns = turns }) else None
 seq_in plain turns = None
 
 abbrev pub command_in : SortedWords → Option SeqCommand

@@ -1,4 +1,5 @@
--- What a call answers that takes memory, by a definition that knows nothing of memory. This project's own.
+-- What a call answers that takes memory, by a definition
+-- that knows nothing of memory. This project's own.
 use Rattle.std.specs.Prelude.{◌≡◌, Result, Ok, Err}
 use Rattle.liszt_base.specs.declared.answers.Refused.{Refused}
 use Rattle.liszt_base.specs.declared.answers.Refused.TheVariants.{Fault, NoMemory as OutOfMemory}

@@ -1,10 +1,11 @@
--- Kinds of elements, and the sets that an element has. The kinds are the Liszt paper's (DeVito et al., Supercomputing 2011);
--- which sets there are is this project's own.
+-- Kinds of elements, and the sets that an element has. The kinds are the Liszt paper's
+-- (DeVito et al., Supercomputing 2011); which sets there are is this project's own.
 use Rattle.std.specs.Prelude.{Bool, true, false}
 use Rattle.liszt_base.specs.declared.elements.Kind.{Kind}
 use Rattle.liszt_base.specs.declared.elements.Kind.TheVariants.{Vertex, Edge, Face, Cell}
 use Rattle.liszt_base.specs.declared.elements.SetName.{SetName}
-use Rattle.liszt_base.specs.declared.elements.SetName.TheVariants.{Vertices, Edges, Faces, Cells, EdgesCcw}
+use Rattle.liszt_base.specs.declared.elements.SetName.TheVariants.{Vertices, Edges, Faces, Cells}
+use Rattle.liszt_base.specs.declared.elements.SetName.TheVariants.{EdgesCcw}
 
 abbrev pub is_kind : Kind → Kind → Bool
 is_kind Vertex Vertex = true

@@ -30,3 +30,7 @@ turn_limit = 1000000000
 
 abbrev pub default_turns : ℕ
 default_turns = 1000000
+
+-- ranks of a run
+abbrev pub rank_limit : ℕ
+rank_limit = 16

@@ -80,6 +80,21 @@ pub struct MeshFault {
     pub number: i64,
 }
 
+/// What is wrong with a parts file, as `docs/MESH-TEXT.md` says of each.
+#[derive(Clone, Copy, Debug, PartialEq, Eq)]
+pub enum PartsWhat {
+    BadNumber,
+    Count,
+    RankRange,
+}
+
+/// A fault of a parts file: what, and the line, from 1 (0 in an empty file).
+#[derive(Clone, Copy, Debug, PartialEq, Eq)]
+pub struct PartsFault {
+    pub what: PartsWhat,
+    pub line: u32,
+}
+
 /// What has a limit: the bytes of a file, the points and cells that a header names, and the tokens of a program.
 #[derive(Clone, Copy, Debug, PartialEq, Eq)]
 pub enum LimitWhat {

@@ -2,12 +2,12 @@
 
 ghost use Rattle.std.specs.Prelude.{◌≡◌, ℕ, ℤ, ◌<◌, ◌^◌};
 ghost use Rattle.liszt_base.specs.declared.elements.Op.{Op};
-ghost use Rattle.liszt_base.specs.Limits.{file_limit, point_limit, cell_limit, token_limit, depth_limit, name_limit, turn_limit, default_turns};
+ghost use Rattle.liszt_base.specs.Limits.{file_limit, point_limit, cell_limit, token_limit, depth_limit, name_limit, turn_limit, default_turns, rank_limit};
 ghost use Rattle.liszt_base.specs.Reductions.{InRange, fold, identity_of, word, value};
 
 use crate::limits::{
-    CELL_LIMIT, DEFAULT_TURNS, DEPTH_LIMIT, FILE_LIMIT, NAME_LIMIT, POINT_LIMIT, TOKEN_LIMIT,
-    TURN_LIMIT,
+    CELL_LIMIT, DEFAULT_TURNS, DEPTH_LIMIT, FILE_LIMIT, NAME_LIMIT, POINT_LIMIT, RANK_LIMIT,
+    TOKEN_LIMIT, TURN_LIMIT,
 };
 
 /// Each reduction is commutative and associative, has its identity, and keeps numbers in range.
@@ -34,4 +34,5 @@ pub fn limits()
     ensures name { NAME_LIMIT ≡ name_limit }
     ensures turns { TURN_LIMIT ≡ turn_limit }
     ensures default { DEFAULT_TURNS ≡ default_turns }
+    ensures ranks { RANK_LIMIT ≡ rank_limit }
 {}

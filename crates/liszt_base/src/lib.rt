@@ -18,14 +18,14 @@ mod word_list;
 
 pub use accesses::{Access, Mode, Spot};
 pub use answers::{
-    Input, LimitFault, LimitWhat, MeshFault, MeshFile, MeshWhat, NoMemory, Place, ProgramFault,
-    ProgramWhat, Refused, RunEnd, Trap, TrapKind,
+    Input, LimitFault, LimitWhat, MeshFault, MeshFile, MeshWhat, NoMemory, PartsFault, PartsWhat,
+    Place, ProgramFault, ProgramWhat, Refused, RunEnd, Trap, TrapKind,
 };
 pub use elements::{Elem, Kind, Op, SetName};
 pub use gate::{Gate, OpenGate};
 pub use limits::{
-    CELL_LIMIT, DEFAULT_TURNS, DEPTH_LIMIT, FILE_LIMIT, NAME_LIMIT, POINT_LIMIT, TOKEN_LIMIT,
-    TURN_LIMIT,
+    CELL_LIMIT, DEFAULT_TURNS, DEPTH_LIMIT, FILE_LIMIT, NAME_LIMIT, POINT_LIMIT, RANK_LIMIT,
+    TOKEN_LIMIT, TURN_LIMIT,
 };
 pub use mesh::{CellList, Point, PointList, PointTable, RawCell, RawMesh};
 pub use plain_list::{ByteList, NumbersList, PlainList};

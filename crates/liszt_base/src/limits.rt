@@ -23,3 +23,6 @@ pub const TURN_LIMIT: u64 = 1_000_000_000;
 
 /// The number of turns without `--turns`.
 pub const DEFAULT_TURNS: u64 = 1_000_000;
+
+/// The greatest number of ranks of a run.
+pub const RANK_LIMIT: u32 = 16;

@@ -4,8 +4,8 @@ ghost use Rattle.std.specs.Prelude.{◌≡◌};
 
 use crate::accesses::{Access, Mode, Spot};
 use crate::answers::{
-    Input, LimitFault, LimitWhat, MeshFault, MeshFile, MeshWhat, NoMemory, Place, ProgramFault,
-    ProgramWhat, Refused, RunEnd, Trap, TrapKind,
+    Input, LimitFault, LimitWhat, MeshFault, MeshFile, MeshWhat, NoMemory, PartsFault, PartsWhat,
+    Place, ProgramFault, ProgramWhat, Refused, RunEnd, Trap, TrapKind,
 };
 use crate::elements::{Elem, Kind, Op, SetName};
 use crate::gate::OpenGate;
@@ -24,12 +24,14 @@ fn shared<T: Send + Sync>() -> usize
 /// The number of types of this crate, each of which may be shared.
 #[allow(dead_code)]
 fn shared_types() -> usize
-    ensures { result ≡ 31 }
+    ensures { result ≡ 33 }
 {
     shared::<Input>()
         + shared::<MeshFile>()
         + shared::<MeshWhat>()
         + shared::<MeshFault>()
+        + shared::<PartsWhat>()
+        + shared::<PartsFault>()
         + shared::<LimitWhat>()
         + shared::<LimitFault>()
         + shared::<Place>()

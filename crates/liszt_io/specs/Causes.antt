@@ -14,7 +14,8 @@ abbrev pub faults_after : {T E : Type 0} → ℕ → Result T E → ℕ
 faults_after before (Ok _) = before
 faults_after before (Err _) = one_more before
 
--- The result of a call and a count: the count never falls, it rose where the call failed, and an Ok leaves it.
+-- The result of a call and a count: the count never falls,
+-- it rose where the call failed, and an Ok leaves it.
 pub record HasCause {T E : Type 0} (before now : ℕ) (result : Result T E) : Type 0 where
   pub later : before ≤ now
   pub failed : OnErr result (Rose before now)

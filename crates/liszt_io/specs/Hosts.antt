@@ -3,8 +3,13 @@ use Rattle.std.specs.Prelude.{◌≡◌, ℕ, List, Option, Some, None, Result, 
 use Rattle.std.specs.Io.KnownBytes.{ReadConsumes}
 use Rattle.liszt_io.specs.declared.outside.Failed.{Failed}
 
--- A read takes the next bytes of the open file, which stays open. Without an open file it fails.
-abbrev pub ReadsOpenFile : {File : Type 0} → (File → Option (List ℕ)) → Option File → Option File → Result ℕ Failed → List ℕ → Type 0
-ReadsOpenFile remaining None new result buffer = (new ≡ None) × OnOk result ⊥
-ReadsOpenFile remaining (Some old) None result buffer = ⊥
-ReadsOpenFile remaining (Some old) (Some new) result buffer = ReadConsumes (remaining old) (remaining new) result buffer
+-- The bytes that remain of a file, where it exposes them.
+abbrev pub Remaining : Type 0
+Remaining = Option (List ℕ)
+
+-- What a read does by what remains of the open file, previously and afterwards. It takes the next
+-- bytes of the file, which stays open. Without an open file it fails.
+abbrev pub ReadsOpenFile : Option Remaining → Option Remaining → Result ℕ Failed → List ℕ → Type 0
+ReadsOpenFile None new result buffer = (new ≡ None) × OnOk result ⊥
+ReadsOpenFile (Some old) None result buffer = ⊥
+ReadsOpenFile (Some old) (Some new) result buffer = ReadConsumes old new result buffer

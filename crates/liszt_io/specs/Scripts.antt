@@ -1,4 +1,5 @@
--- The behaviour of a shelf or a sink in memory: the bytes that a call moves, and which calls fail. This project's own.
+-- The behaviour of a shelf or a sink in memory: the bytes that
+-- a call moves, and which calls fail. This project's own.
 use Rattle.std.specs.Prelude.{◌≡◌, ◌==◌, ℕ, Bool}
 use Rattle.std.specs.List.{list_any}
 use Rattle.liszt_io.specs.Causes.{one_more}

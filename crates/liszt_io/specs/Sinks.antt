@@ -1,5 +1,6 @@
 -- The meaning of a sink: the bytes written, where it exposes them. This project's own.
-use Rattle.std.specs.Prelude.{◌≡◌, ◌==◌, ◌&&◌, ℕ, ◌<◌, ◌≤◌, ◌++◌, Bool, true, List, length, take, Option, Result, Ok, Err}
+use Rattle.std.specs.Prelude.{◌≡◌, ◌==◌, ◌&&◌, ℕ, ◌<◌, ◌≤◌, ◌++◌, Bool, true, List, length, take}
+use Rattle.std.specs.Prelude.{Option, Result, Ok, Err}
 use Rattle.std.specs.Io.KnownBytes.{append_known}
 use Rattle.liszt_io.specs.declared.outside.Failed.{Failed}
 use Rattle.liszt_io.specs.declared.outside.WriteFault.{WriteFault}

@@ -93,6 +93,7 @@ impl<'a, R: Files> HostShelf<'a, R> {
 
 impl<R: Files> Shelf for HostShelf<'_, R> {
     ghost use Rattle.std.specs.Prelude.{◌≡◌, ◌≤◌, ℕ, List, length, Some, None, IsSome, IfOk, OnOk, OnErr};
+    ghost use Rattle.std.specs.Option.{option_map};
     ghost use Rattle.liszt_io.specs.Causes.{HasCause};
     ghost use Rattle.liszt_io.specs.Hosts.{ReadsOpenFile};
     ghost use Rattle.liszt_io.specs.Shelves.{Files as FileMap, file as file_bytes, no_faults, no_cursor, Opens, Reads, ReadsWithoutCursor};
@@ -133,7 +134,8 @@ impl<R: Files> Shelf for HostShelf<'_, R> {
             → Reads name bytes place result buf.new no_cursor no_faults no_faults }
         ensures no_cursor { (files : FileMap) → None ≡ Some files → no_cursor ≡ no_cursor
             → ReadsWithoutCursor result no_cursor no_faults no_faults }
-        ensures bytes { ReadsOpenFile R.File.remaining self.old.file self.new.file result buf.new }
+        ensures bytes { ReadsOpenFile (option_map R.File.remaining self.old.file)
+            (option_map R.File.remaining self.new.file) result buf.new }
     {
         let read = match &mut self.file {
             Some(file) => read_some(file, buf),

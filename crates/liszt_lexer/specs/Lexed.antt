@@ -13,4 +13,6 @@ pub record LexedText : Type 0 where
 
 -- The tokens of a text with the place of its end, or the first fault of the text.
 abbrev pub lexed_text : List ℕ → Result LexedText ProgramFault
-lexed_text text = result_map_both (λ tokens. record { tokens = tokens; end = end_of text }) (λ fault. fault) (tokens_of text)
+lexed_text text =
+    result_map_both (λ tokens. record { tokens = tokens; end = end_of text }) (λ fault. fault)
+    (tokens_of text)

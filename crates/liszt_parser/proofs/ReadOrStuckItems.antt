@@ -6,7 +6,7 @@ use Rattle.liszt_parser.specs.Grammar.{Lexeme, how_of, kind_of, mesh_set_of, ope
 use Rattle.liszt_parser.specs.Internal.Productions.{declaration_parts, main_items, mains, main_blocks, main_elses}
 use Rattle.liszt_parser.specs.Internal.Reading.{Reader, IsRead, HeadIs, HeadIsNot, Is, token, ◌then◌}
 use Rattle.liszt_parser.specs.Internal.Sorts.{Ends, NoElse}
-use Rattle.liszt_parser.proofs.FewNodes.{an_item}
+use Rattle.liszt_parser.proofs.NodeCountLemmas.{an_item}
 use Rattle.liszt_parser.proofs.ItemReaders.{kind_lawful, whole_lawful, items_lawful, mains_lawful, main_blocks_lawful, item_mains, item_loose, no_items_read, mains_become, close_mains, close_loose, inner_main, main_block_becomes, kind_set, colon_kind, name_colon, field_lawful, main_assignment_lawful, print_lawful, main_else_lawful, main_elses_lawful, main_block_elses, main_test_block, main_branch_lawful, main_block_law, main_repetition_lawful, close_body, close_close, mesh_close, open_mesh, whole_open, arrow_whole, name_arrow, open_name, comprehension_lawful}
 use Rattle.liszt_parser.proofs.ItemProductions.{field_becomes, main_var_becomes, main_assign_becomes, main_if_becomes, main_while_becomes, main_for_becomes, print_becomes}
 use Rattle.liszt_parser.proofs.ReadOrStuck.{ReadOrStuck, known_from, known_then, known_mapped, known_token, known_after, known_choice, known_becomes, known_maybe, decide_is}

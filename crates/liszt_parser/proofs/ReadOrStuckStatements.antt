@@ -8,7 +8,7 @@ use Rattle.liszt_parser.specs.Internal.Productions.{expressions, arguments, brac
 use Rattle.liszt_parser.specs.Internal.Reading.{Reader, IsRead, HeadIs, HeadIsNot, Is, token, token_with_value, ◌then◌}
 use Rattle.liszt_parser.specs.Internal.Sorts.{Ends, NoElse, an_end, an_else}
 use Rattle.liszt_parser.proofs.ClosingLemmas.{semicolon_read, end_read, nothing_closes}
-use Rattle.liszt_parser.proofs.FewNodes.{a_statement}
+use Rattle.liszt_parser.proofs.NodeCountLemmas.{a_statement}
 use Rattle.liszt_parser.proofs.HeadLemmas.{no_else, head_sorted, not_ends}
 use Rattle.liszt_parser.proofs.ReadOrStuck.{ReadOrStuck, known_from, known_then, known_mapped, known_token, known_after, known_choice, known_becomes, known_maybe, decide_kind, decide_is}
 use Rattle.liszt_parser.proofs.ReadOrStuckExpressions.{loose, known_expression, known_brackets_of, known_arguments_of}

@@ -15,6 +15,7 @@ use Rattle.tet_reader.specs.Headers.{number_at}
 use Rattle.tet_reader.specs.Internal.RowKinds.{value_or_zero, word_number, IsCorner, corner_of, region_of}
 use Rattle.tet_reader.specs.Points.{IsCellRow, Spell, first_or_zero}
 use Rattle.tet_reader.specs.Faults.{magnitude_or_zero, cell_words, row_corners}
+use Rattle.tet_reader.proofs.Forms.{cell_form}
 use Rattle.tet_reader.proofs.Tests.{Passes, zip_append, append_zip, number_spelled, number_passes, real_spelled, real_passes}
 use Rattle.tet_reader.proofs.Tests.{corner_spelled, corner_passes}
 use Rattle.tet_reader.proofs.Tests.{each_none, row_spelled}
@@ -52,7 +53,7 @@ corners_are base number_word corner_words attribute_words places e l =
 
 -- they are its cell's
 pub row_corners_are : (attributes points base number : ℕ) (words : List (List ℕ)) (cell : RawCell)
-    → IsCellRow attributes points base number words cell → row_corners base words ≡ cell.corners
+    → IsCellRow (cell_form attributes points base) number words cell → row_corners base words ≡ cell.corners
 row_corners_are attributes points base number words cell h =
     ap (row_corners base) h.words_are
     ∙ corners_are base h.number_word h.corner_words h.attribute_words cell.corners h.corners_are h.corners_fit.0
@@ -66,8 +67,8 @@ same_cell corners corners' region region' p q =
     one ∙ ap (λ (v : ℤ). record { corners = corners'; region = v }) q
 
 -- a row is that of one cell, whatever its number
-pub one_cell : (attributes points base k l : ℕ) (words : List (List ℕ)) (c d : RawCell) → IsCellRow attributes points base k words c
-    → IsCellRow attributes points base l words d → c ≡ d
+pub one_cell : (attributes points base k l : ℕ) (words : List (List ℕ)) (c d : RawCell) → IsCellRow (cell_form attributes points base) k words c
+    → IsCellRow (cell_form attributes points base) l words d → c ≡ d
 one_cell attributes points base k l words c d h i =
     let corners : c.corners ≡ d.corners =
     sym (row_corners_are attributes points base k words c h) ∙ row_corners_are attributes points base l words d i in
@@ -109,7 +110,7 @@ places_passes base points (suc n) (word ∷ words) (v ∷ places) e l h =
 -- words that pass, with different corners, are a cell's row
 pub cell_spelled : (attributes points base number : ℕ) (words : List (List ℕ))
     → AllZip Passes (cell_words attributes points base number) words → are_different (row_corners base words) ≡ true
-    → (cell : RawCell) × IsCellRow attributes points base number words cell
+    → (cell : RawCell) × IsCellRow (cell_form attributes points base) number words cell
 cell_spelled attributes points base number [] h different = absurd h
 cell_spelled attributes points base number (word ∷ words) h different =
     let c = append_zip Passes (replicate 4 (Corner base points)) (replicate attributes Real) words h.1 in
@@ -137,7 +138,7 @@ cell_spelled attributes points base number (word ∷ words) h different =
 
 -- a cell's row passes, and its corners are different
 pub cell_passes : (attributes points base number : ℕ) (words : List (List ℕ)) (cell : RawCell)
-    → IsCellRow attributes points base number words cell
+    → IsCellRow (cell_form attributes points base) number words cell
     → AllZip Passes (cell_words attributes points base number) words × (are_different (row_corners base words) ≡ true)
 cell_passes attributes points base number words cell h =
     let corners = places_passes base points 4 h.corner_words cell.corners h.corners_are h.corners_fit.0 h.corners_fit.2 in
@@ -152,7 +153,7 @@ cell_passes attributes points base number words cell h =
 
 -- the first word of a cell's row is its number
 pub cell_number : (attributes points base number : ℕ) (words : List (List ℕ)) (cell : RawCell)
-    → IsCellRow attributes points base number words cell → whole_of (slice_index_or words 0 []) ≡ Ok (pos number)
+    → IsCellRow (cell_form attributes points base) number words cell → whole_of (slice_index_or words 0 []) ≡ Ok (pos number)
 cell_number attributes points base number words cell h =
     ap (λ (l : List (List ℕ)). whole_of (slice_index_or l 0 [])) h.words_are ∙ h.number_is
 
@@ -173,7 +174,7 @@ pub record Holds (attributes points base number : ℕ) (words : List (List ℕ))
   pub corners : row_corners base words ≡ places
   pub values_count : length values ≡ attributes
   pub numbers_are : numbers ≡ pos number ∷ (map (λ v. pos (base + v)) places ++ values)
-  pub cell : are_different places ≡ true → (region : ℤ) × (region ≡ first_or_zero values) × IsCellRow attributes points base number words (record { corners = places; region = region })
+  pub cell : are_different places ≡ true → (region : ℤ) × (region ≡ first_or_zero values) × IsCellRow (cell_form attributes points base) number words (record { corners = places; region = region })
 
 pub holds : (count place attributes points base number : ℕ) (words : List (List ℕ)) (numbers : List ℤ)
     → first_some (row_tests count place (cell_words attributes points base number) words) ≡ None
@@ -304,7 +305,7 @@ region_is attributes base number (a ∷ b ∷ c ∷ d ∷ e ∷ places) values l
 -- the row is that of the cell of these numbers, where its corners are different
 pub cell_read : (attributes points base number : ℕ) (words : List (List ℕ)) (numbers : List ℤ) → points < 2 ^ 32
     → Holds attributes points base number words numbers → are_different (row_corners base words) ≡ true
-    → IsCellRow attributes points base number words (record {
+    → IsCellRow (cell_form attributes points base) number words (record {
       corners = corner_of base numbers 1 ∷ corner_of base numbers 2 ∷ corner_of base numbers 3 ∷ corner_of base numbers 4 ∷ [];
       region = region_of attributes numbers;
     })
@@ -314,6 +315,6 @@ cell_read attributes points base number words numbers few h different =
     sym h.corners ∙ sym (corners_hold attributes points base number words numbers few h).4 in
     let region : c.0 ≡ region_of attributes numbers =
     c.1 ∙ sym (ap (region_of attributes) h.numbers_are ∙ region_is attributes base number h.places h.values h.four h.values_count) in
-    subst (λ (q : RawCell). IsCellRow attributes points base number words q)
+    subst (λ (q : RawCell). IsCellRow (cell_form attributes points base) number words q)
     (same_cell h.places (corner_of base numbers 1 ∷ corner_of base numbers 2 ∷ corner_of base numbers 3 ∷ corner_of base numbers 4 ∷ []) c.0
     (region_of attributes numbers) corners region) c.2

@@ -26,6 +26,7 @@ use Rattle.tet_reader.specs.Answers.{SpellMesh, Reads, SpelledBy}
 use Rattle.tet_reader.specs.Internal.RowReading.{HeadsEle}
 use Rattle.tet_reader.specs.declared.headers.EleHeader.{EleHeader}
 use Rattle.tet_reader.specs.declared.misfit.Misfit.{Misfit}
+use Rattle.tet_reader.proofs.Forms.{cell_form, file_form}
 use Rattle.tet_reader.proofs.HeaderTests.{ele_header_passes, ele_counts}
 use Rattle.tet_reader.proofs.Lists.{cell_tests, cell_kind, ele_spelled, ele_passes, one_cell_list}
 use Rattle.tet_reader.proofs.NodeReading.{row_after_header}
@@ -39,17 +40,17 @@ use Rattle.tet_reader.proofs.WholeMeshLemmas.{CellCorners, cells_corners, whole_
 ele_same : (points base last : ℕ) (header : Row) (others : List Row) (h : EleHeader) (own : ℕ) → IsEleHeader header.words h.cells h.attributes
     → own ≡ first_number others
     → first_some (ele_tests points base last (header ∷ others))
-    ≡ first_some (file_tests Ele (pos h.cells) (ele_header_tests header.words) (cell_tests h.cells h.attributes points base own) last header others)
+    ≡ first_some (file_tests (file_form Ele (pos h.cells) (ele_header_tests header.words) (cell_tests h.cells h.attributes points base own)) last header others)
 ele_same points base last header others h own is own_is =
     let numbers : List ℤ = ele_numbers header.words in
     let head = ele_header_tests header.words in
     let first_is : ℕ = first_number others in
     let counts = ele_counts header.words h.cells h.attributes is in
     let count : number_at numbers 0 ≡ pos h.cells = ap (λ (l : List ℤ). number_at l 0) is.numbers in
-    ap (λ (k : ℕ). first_some (file_tests Ele (number_at numbers 0) head (cell_tests k (nat_abs (number_at numbers 2)) points base first_is) last header others)) counts.0
-    ∙ (ap (λ (k : ℕ). first_some (file_tests Ele (number_at numbers 0) head (cell_tests h.cells k points base first_is) last header others)) counts.1
-    ∙ (ap (λ (k : ℕ). first_some (file_tests Ele (number_at numbers 0) head (cell_tests h.cells h.attributes points base k) last header others)) (sym own_is)
-    ∙ ap (λ (z : ℤ). first_some (file_tests Ele z head (cell_tests h.cells h.attributes points base own) last header others)) count))
+    ap (λ (k : ℕ). first_some (file_tests (file_form Ele (number_at numbers 0) head (cell_tests k (nat_abs (number_at numbers 2)) points base first_is)) last header others)) counts.0
+    ∙ (ap (λ (k : ℕ). first_some (file_tests (file_form Ele (number_at numbers 0) head (cell_tests h.cells k points base first_is)) last header others)) counts.1
+    ∙ (ap (λ (k : ℕ). first_some (file_tests (file_form Ele (number_at numbers 0) head (cell_tests h.cells h.attributes points base k)) last header others)) (sym own_is)
+    ∙ ap (λ (z : ℤ). first_some (file_tests (file_form Ele z head (cell_tests h.cells h.attributes points base own)) last header others)) count))
 
 -- a row's fault is the file's
 pub ele_row_fault : (points base last : ℕ) (rows : List Row) (h : EleHeader) (own place : ℕ) (what : MeshWhat) (line : ℕ) (found : MeshFault) → HeadsEle rows h
@@ -76,11 +77,11 @@ cells_within points base rows h own pass =
 
 -- too few rows
 pub ele_missing : (points base last : ℕ) (rows : List Row) (h : EleHeader) (own : ℕ) (cells : List RawCell) (found : MeshFault) → HeadsEle rows h
-    → own ≡ first_number (drop 1 rows) → AreNumbered (IsCellRow h.attributes points base) own (drop 1 rows) cells → length cells < h.cells
+    → own ≡ first_number (drop 1 rows) → AreNumbered (IsCellRow (cell_form h.attributes points base)) own (drop 1 rows) cells → length cells < h.cells
     → found ≡ fault_at Ele (pos h.cells) last Missing → first_some (ele_tests points base last rows) ≡ Some found
 ele_missing points base last [] h own cells found heads own_is each few e = absurd (omega (arith, heads.0))
 ele_missing points base last (header ∷ others) h own cells found heads own_is each few e =
-    let count = numbered_length (IsCellRow h.attributes points base) own others cells each in
+    let count = numbered_length (IsCellRow (cell_form h.attributes points base)) own others cells each in
     let head = ele_header_passes header.words h.cells h.attributes heads.1 in
     let pass = rows_passes (cell_kind h.cells h.attributes points base own) others cells 0 own (omega arith) (omega (arith, count)) each in
     ele_same points base last header others h own heads.1 own_is
@@ -89,11 +90,11 @@ ele_missing points base last (header ∷ others) h own cells found heads own_is 
 
 -- the cells
 pub ele_spells : (points : List Point) (base : ℕ) (rows : List Row) (h : EleHeader) (own : ℕ) (cells : List RawCell) → HeadsEle rows h
-    → own ≡ first_number (drop 1 rows) → AreNumbered (IsCellRow h.attributes (length points) base) own (drop 1 rows) cells
+    → own ≡ first_number (drop 1 rows) → AreNumbered (IsCellRow (cell_form h.attributes (length points) base)) own (drop 1 rows) cells
     → length (drop 1 rows) ≤ h.cells → h.cells ≤ length cells → Cells rows points base cells
 ele_spells points base [] h own cells heads own_is each within enough = absurd (omega (arith, heads.0))
 ele_spells points base (header ∷ others) h own cells heads own_is each within enough =
-    let count = numbered_length (IsCellRow h.attributes (length points) base) own others cells each in
+    let count = numbered_length (IsCellRow (cell_form h.attributes (length points) base)) own others cells each in
     let same : h.cells ≡ length cells = omega (arith, count) in
     record {
       header = header;
@@ -125,7 +126,7 @@ corners_fit rows points base cells h = go cells (cells_corners rows points base 
 pub cells_count : (rows : List Row) (points : List Point) (base : ℕ) (cells : List RawCell) → Cells rows points base cells
     → length rows ≡ length cells + 1
 cells_count rows points base cells h =
-    let count = numbered_length (IsCellRow h.attributes (length points) base) h.first h.others cells h.each in
+    let count = numbered_length (IsCellRow (cell_form h.attributes (length points) base)) h.first h.others cells h.each in
     omega (arith, ap length h.rows_are, count)
 
 -- the fault of the ele file over a mesh's points is that of the first misfit

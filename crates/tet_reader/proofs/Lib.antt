@@ -1,6 +1,7 @@
 pub mod CellRows
 pub mod EleReading
 pub mod FaceLemmas
+pub mod Forms
 pub mod HeaderTests
 pub mod HeaderWords
 pub mod KeyLemmas

@@ -15,6 +15,7 @@ use Rattle.tet_reader.specs.Headers.{node_numbers, ele_numbers, IsNodeHeader, Is
 use Rattle.tet_reader.specs.Points.{AreNumbered, IsPointRow, IsCellRow, Points, Cells}
 use Rattle.tet_reader.specs.Faults.{first_number, point_words, cell_words, row_corners, node_row_tests, node_tests, ele_row_tests}
 use Rattle.tet_reader.specs.Faults.{ele_tests}
+use Rattle.tet_reader.proofs.Forms.{cell_form}
 use Rattle.tet_reader.proofs.Tests.{unless_none, none_unless, FindNone, none_append, append_none, row_spelled, row_passes}
 use Rattle.tet_reader.proofs.HeaderTests.{node_header_spelled, node_header_passes, node_counts, ele_header_spelled, ele_header_passes, ele_counts}
 use Rattle.tet_reader.proofs.PointRows.{one_point, point_spelled, point_passes, point_number}
@@ -79,10 +80,10 @@ one_cell_list rows points base cells others h i =
     let theirs = ele_counts i.header.words (length others) i.attributes i.header_is in
     let numbers : ele_numbers i.header.words ≡ ele_numbers h.header.words = ap (λ (r : Row). ele_numbers r.words) (sym header) in
     let attributes : i.attributes ≡ h.attributes = sym theirs.1 ∙ (ap (λ (l : List ℤ). nat_abs (number_at l 2)) numbers ∙ mine.1) in
-    let one = subst (λ (l : List Row). AreNumbered (IsCellRow i.attributes (length points) base) i.first l others) (sym rest) i.each in
-    let two = subst (λ (k : ℕ). AreNumbered (IsCellRow k (length points) base) i.first h.others others) attributes one in
+    let one = subst (λ (l : List Row). AreNumbered (IsCellRow (cell_form i.attributes (length points) base)) i.first l others) (sym rest) i.each in
+    let two = subst (λ (k : ℕ). AreNumbered (IsCellRow (cell_form k (length points) base)) i.first h.others others) attributes one in
     let one_of = one_cell h.attributes (length points) base in
-    one_items (IsCellRow h.attributes (length points) base) one_of h.others h.first i.first cells others h.each two
+    one_items (IsCellRow (cell_form h.attributes (length points) base)) one_of h.others h.first i.first cells others h.each two
 
 -- ---- no fault
 
@@ -168,7 +169,7 @@ cell_tests count attributes points base own place words =
     row_tests count place (cell_words attributes points base (own + place)) words ++ different_test base words ∷ []
 
 pub cell_kind : (count attributes points base own : ℕ)
-    → IsKind count own (cell_tests count attributes points base own) (IsCellRow attributes points base)
+    → IsKind count own (cell_tests count attributes points base own) (IsCellRow (cell_form attributes points base))
 cell_kind count attributes points base own =
     let expected : ℕ → List Word = λ place. cell_words attributes points base (own + place) in
     record {
@@ -199,7 +200,7 @@ ele_spelled points base last (header ∷ others) e =
     let kind = cell_kind count attributes (length points) base own in
     let items = rows_spelled kind others 0 own (omega arith) f.1 in
     let within = rows_within kind others 0 (omega arith) f.1 in
-    let length_is = numbered_length (IsCellRow attributes (length points) base) own others items.0 items.1 in
+    let length_is = numbered_length (IsCellRow (cell_form attributes (length points) base)) own others items.0 items.1 in
     let count_is : count ≡ length items.0 = omega (arith, f.2) in (
       items.0,
       record {
@@ -216,11 +217,11 @@ ele_spelled points base last (header ∷ others) e =
 
 -- the rows of cells pass, numbered from the number that the tests take from the first
 cells_pass : (count attributes points base start : ℕ) (rows : List Row) (cells : List RawCell) → start ≤ 1 → length rows ≤ count
-    → AreNumbered (IsCellRow attributes points base) start rows cells
+    → AreNumbered (IsCellRow (cell_form attributes points base)) start rows cells
     → AllPass (cell_tests count attributes points base (first_number rows)) 0 rows
 cells_pass count attributes points base start [] cells le within each = tt
 cells_pass count attributes points base start (row ∷ rows) cells le within each =
-    let own = first_number_is (IsCellRow attributes points base) (cell_number attributes points base) row rows start cells le each in
+    let own = first_number_is (IsCellRow (cell_form attributes points base)) (cell_number attributes points base) row rows start cells le each in
     let number : start ≡ first_number (row ∷ rows) + 0 = omega (arith, own) in
     let within' : 0 + length (row ∷ rows) ≤ count = omega arith in
     rows_passes (cell_kind count attributes points base (first_number (row ∷ rows))) (row ∷ rows) cells 0 start number within' each
@@ -228,13 +229,13 @@ cells_pass count attributes points base start (row ∷ rows) cells le within eac
 -- the tests of an ele file that spells cells find nothing
 ele_rows_passes : (points : List Point) (base last : ℕ) (header : Row) (others : List Row) (cells : List RawCell) (attributes start : ℕ)
     → IsEleHeader header.words (length cells) attributes → start ≤ 1
-    → AreNumbered (IsCellRow attributes (length points) base) start others cells
+    → AreNumbered (IsCellRow (cell_form attributes (length points) base)) start others cells
     → first_some (ele_tests (length points) base last (header ∷ others)) ≡ None
 ele_rows_passes points base last header others cells attributes start is start_is each =
     let numbers : List ℤ = ele_numbers header.words in
     let counts = ele_counts header.words (length cells) attributes is in
-    let one = subst (λ (k : ℕ). AreNumbered (IsCellRow k (length points) base) start others cells) (sym counts.1) each in
-    let length_is = numbered_length (IsCellRow attributes (length points) base) start others cells each in
+    let one = subst (λ (k : ℕ). AreNumbered (IsCellRow (cell_form k (length points) base)) start others cells) (sym counts.1) each in
+    let length_is = numbered_length (IsCellRow (cell_form attributes (length points) base)) start others cells each in
     let count : ℕ = nat_abs (number_at numbers 0) in
     let within : length others ≤ count = omega (arith, counts.0) in
     let pass = cells_pass count (nat_abs (number_at numbers 2)) (length points) base start others cells start_is within one in

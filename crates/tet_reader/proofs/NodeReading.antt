@@ -14,6 +14,7 @@ use Rattle.tet_reader.specs.Points.{AreNumbered, IsPointRow, Points}
 use Rattle.tet_reader.specs.Faults.{fault_at, first_number, point_words, file_tests, node_tests}
 use Rattle.tet_reader.specs.Internal.RowReading.{HeadsNode}
 use Rattle.tet_reader.specs.declared.headers.NodeHeader.{NodeHeader}
+use Rattle.tet_reader.proofs.Forms.{file_form}
 use Rattle.tet_reader.proofs.HeaderTests.{node_header_passes, node_counts}
 use Rattle.tet_reader.proofs.Lists.{point_tests, point_kind, first_of_none}
 use Rattle.tet_reader.proofs.RowLists.{AllPass, rows_within, rows_passes, numbered_length, first_number_fits}
@@ -31,20 +32,18 @@ after_first (header ∷ others) place some = row_after_header header others plac
 node_same : (last : ℕ) (header : Row) (others : List Row) (h : NodeHeader) (base : ℕ) → IsNodeHeader header.words h.points h.attributes h.markers
     → base ≡ first_number others
     → first_some (node_tests last (header ∷ others))
-    ≡ first_some (file_tests Node (pos h.points) (node_header_tests header.words) (point_tests h.points h.attributes h.markers base) last header others)
+    ≡ first_some (file_tests (file_form Node (pos h.points) (node_header_tests header.words) (point_tests h.points h.attributes h.markers base)) last header others)
 node_same last header others h base is base_is =
     let numbers : List ℤ = node_numbers header.words in
     let head = node_header_tests header.words in
     let own : ℕ = first_number others in
     let counts = node_counts header.words h.points h.attributes h.markers is in
     let count : number_at numbers 0 ≡ pos h.points = ap (λ (l : List ℤ). number_at l 0) is.numbers in
-    ap (λ (k : ℕ). first_some (file_tests Node (number_at numbers 0) head
-    (point_tests k (nat_abs (number_at numbers 2)) (nat_abs (number_at numbers 3)) own) last header others)) counts.0
-    ∙ (ap (λ (k : ℕ). first_some (file_tests Node (number_at numbers 0) head
-    (point_tests h.points k (nat_abs (number_at numbers 3)) own) last header others)) counts.1
-    ∙ (ap (λ (k : ℕ). first_some (file_tests Node (number_at numbers 0) head (point_tests h.points h.attributes k own) last header others)) counts.2
-    ∙ (ap (λ (k : ℕ). first_some (file_tests Node (number_at numbers 0) head (point_tests h.points h.attributes h.markers k) last header others)) (sym base_is)
-    ∙ ap (λ (z : ℤ). first_some (file_tests Node z head (point_tests h.points h.attributes h.markers base) last header others)) count)))
+    ap (λ (k : ℕ). first_some (file_tests (file_form Node (number_at numbers 0) head (point_tests k (nat_abs (number_at numbers 2)) (nat_abs (number_at numbers 3)) own)) last header others)) counts.0
+    ∙ (ap (λ (k : ℕ). first_some (file_tests (file_form Node (number_at numbers 0) head (point_tests h.points k (nat_abs (number_at numbers 3)) own)) last header others)) counts.1
+    ∙ (ap (λ (k : ℕ). first_some (file_tests (file_form Node (number_at numbers 0) head (point_tests h.points h.attributes k own)) last header others)) counts.2
+    ∙ (ap (λ (k : ℕ). first_some (file_tests (file_form Node (number_at numbers 0) head (point_tests h.points h.attributes h.markers k)) last header others)) (sym base_is)
+    ∙ ap (λ (z : ℤ). first_some (file_tests (file_form Node z head (point_tests h.points h.attributes h.markers base)) last header others)) count)))
 
 -- a row's fault is the file's
 pub node_row_fault : (last : ℕ) (rows : List Row) (h : NodeHeader) (base place : ℕ) (what : MeshWhat) (line : ℕ) (found : MeshFault) → HeadsNode rows h

@@ -14,6 +14,7 @@ use Rattle.text_scan.specs.Rows.{Row}
 use Rattle.tet_reader.specs.Tests.{first_some, unless}
 use Rattle.tet_reader.specs.Points.{AreNumbered}
 use Rattle.tet_reader.specs.Faults.{fault_at, is_one, first_number, line_fault, file_tests}
+use Rattle.tet_reader.proofs.Forms.{file_form}
 use Rattle.tet_reader.proofs.Tests.{unless_none, none_unless, FindNone, each_none, first_none, none_append, append_none}
 
 -- the tests of each row find nothing, and the places run on by one
@@ -59,10 +60,10 @@ last_tests count rows = unless (nat_le (nat_abs count) (length rows)) Missing �
 -- a file's tests find nothing where those of its header and of its rows do, and no row is missing
 pub file_spelled : (file : MeshFile) (count : ℤ) (header_tests : List (Option MeshWhat)) (tests : ℕ → List (List ℕ) → List (Option MeshWhat))
     (last : ℕ) (header : Row) (rows : List Row)
-    → first_some (file_tests file count header_tests tests last header rows) ≡ None
+    → first_some (file_tests (file_form file count header_tests tests) last header rows) ≡ None
     → FindNone header_tests × AllPass tests 0 rows × (nat_abs count ≤ length rows)
 file_spelled file count header_tests tests last header rows e =
-    let all = each_none (file_tests file count header_tests tests last header rows) e in
+    let all = each_none (file_tests (file_form file count header_tests tests) last header rows) e in
     let end : List (Option MeshFault) = line_fault file count last (last_tests count rows) ∷ [] in
     let parts = append_none (row_faults file count tests 0 rows) end all.1 in
     let enough = line_spelled file count last (last_tests count rows) parts.1.0 in
@@ -72,13 +73,13 @@ file_spelled file count header_tests tests last header rows e =
 pub file_passes : (file : MeshFile) (count : ℤ) (header_tests : List (Option MeshWhat)) (tests : ℕ → List (List ℕ) → List (Option MeshWhat))
     (last : ℕ) (header : Row) (rows : List Row)
     → FindNone header_tests → AllPass tests 0 rows → nat_abs count ≤ length rows
-    → first_some (file_tests file count header_tests tests last header rows) ≡ None
+    → first_some (file_tests (file_form file count header_tests tests) last header rows) ≡ None
 file_passes file count header_tests tests last header rows head pass enough =
     let end : List (Option MeshFault) = line_fault file count last (last_tests count rows) ∷ [] in
     let none : FindNone (last_tests count rows) = (none_unless _ Missing (le-leb (nat_abs count) (length rows) enough), tt) in
     let end' : FindNone end = (line_passes file count last (last_tests count rows) none, tt) in
     let rest = none_append (row_faults file count tests 0 rows) end (pass_rows file count tests 0 rows pass) end' in
-    first_none (file_tests file count header_tests tests last header rows) (line_passes file count header.line header_tests head, rest)
+    first_none (file_tests (file_form file count header_tests tests) last header rows) (line_passes file count header.line header_tests head, rest)
 
 -- ---- rows and items
 

@@ -13,6 +13,7 @@ use Rattle.text_scan.specs.Rows.{row_at}
 use Rattle.tet_reader.specs.Tests.{first_some}
 use Rattle.tet_reader.specs.Points.{AreNumbered}
 use Rattle.tet_reader.specs.Faults.{fault_at, line_fault, file_tests}
+use Rattle.tet_reader.proofs.Forms.{file_form}
 use Rattle.tet_reader.proofs.Tests.{FindNone, each_none, first_none}
 use Rattle.tet_reader.proofs.WordLists.{first_after}
 use Rattle.tet_reader.proofs.RowLists.{AllPass, row_faults, last_tests, pass_rows, line_passes}
@@ -94,7 +95,7 @@ found_among file count tests start (row ∷ rows) (suc place) what end lt h wron
 pub row_fault : (file : MeshFile) (count : ℤ) (header_tests : List (Option MeshWhat)) (tests : Tests) (last : ℕ) (header : Row) (rows : List Row) (place : ℕ)
     (what : MeshWhat) → FindNone header_tests → place < length rows → AllPass tests 0 (take place rows)
     → first_some (tests place (row_at rows place).words) ≡ Some what
-    → first_some (file_tests file count header_tests tests last header rows) ≡ Some (fault_at file count (row_at rows place).line what)
+    → first_some (file_tests (file_form file count header_tests tests) last header rows) ≡ Some (fault_at file count (row_at rows place).line what)
 row_fault file count header_tests tests last header rows place what head lt h wrong =
     let none = line_passes file count header.line header_tests head in
     rw none (found_among file count tests 0 rows place what (line_fault file count last (last_tests count rows) ∷ []) lt h
@@ -103,7 +104,7 @@ row_fault file count header_tests tests last header rows place what head lt h wr
 -- that a row is missing is the file's fault, where the header and the rows pass
 pub missing_fault : (file : MeshFile) (count : ℤ) (header_tests : List (Option MeshWhat)) (tests : Tests) (last : ℕ) (header : Row) (rows : List Row)
     → FindNone header_tests → AllPass tests 0 rows → length rows < nat_abs count
-    → first_some (file_tests file count header_tests tests last header rows) ≡ Some (fault_at file count last Missing)
+    → first_some (file_tests (file_form file count header_tests tests) last header rows) ≡ Some (fault_at file count last Missing)
 missing_fault file count header_tests tests last header rows head pass few =
     let none = line_passes file count header.line header_tests head in
     let rest = first_none (row_faults file count tests 0 rows) (pass_rows file count tests 0 rows pass) in

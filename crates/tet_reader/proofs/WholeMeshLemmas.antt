@@ -13,6 +13,7 @@ use Rattle.text_scan.specs.Rows.{Row, TextRows}
 use Rattle.tet_reader.specs.Tests.{first_some}
 use Rattle.tet_reader.specs.Points.{AreNumbered, IsCellRow, Points, Cells}
 use Rattle.tet_reader.specs.Faults.{first_number, row_corners, cell_fault, whole_tests, node_fault, ele_fault, mesh_fault}
+use Rattle.tet_reader.proofs.Forms.{cell_form}
 use Rattle.tet_reader.proofs.Tests.{FindNone, each_none, first_none, none_append, append_none}
 use Rattle.tet_reader.proofs.CellRows.{row_corners_are}
 use Rattle.tet_reader.proofs.Lists.{points_base, points_count, node_spelled, node_passes, ele_spelled, ele_passes}
@@ -72,7 +73,7 @@ whole_passes base rows h =
 
 -- they are the same, and each is a cell of n points
 rows_corners : (attributes points base start : ℕ) (rows : List Row) (cells : List RawCell)
-    → AreNumbered (IsCellRow attributes points base) start rows cells
+    → AreNumbered (IsCellRow (cell_form attributes points base)) start rows cells
     → (CornersOf base rows ≡ CellCorners cells) × AllByRecursion (IsCell points) (CellCorners cells)
 rows_corners attributes points base start [] [] h = (refl, tt)
 rows_corners attributes points base start [] (cell ∷ cells) h = absurd h

@@ -9,6 +9,7 @@ use Rattle.text_scan.specs.Rows.{Row, text_rows}
 use Rattle.tet_reader.specs.Files.{marked_points, four_marked, cell_with_region, turned_with_region}
 use Rattle.tet_reader.specs.Files.{short_points, one_short, short_cell, plain_cell}
 use Rattle.tet_reader.specs.Points.{Spell, first_or_zero, IsPointRow, IsCellRow, Points, Cells}
+use Rattle.tet_reader.proofs.Forms.{cell_form}
 
 -- a row of a point by its parts
 point_row : {number : ℕ} {p : Point} (n : List ℕ) (xyz attributes markers : List (List ℕ)) (values marks : List ℤ)
@@ -36,7 +37,7 @@ point_row n xyz attributes markers values marks is_number are_coordinates are_va
 cell_row : {points base number : ℕ} {c : RawCell} (n : List ℕ) (corners attributes : List (List ℕ)) (values : List ℤ)
     → whole_of n ≡ Ok (pos number) → Spell whole_of corners (map (λ v. pos (base + v)) c.corners) → IsCell points c.corners
     → Spell millionths_of attributes values → c.region ≡ first_or_zero values
-    → IsCellRow (length attributes) points base number (n ∷ (corners ++ attributes)) c
+    → IsCellRow (cell_form (length attributes) points base) number (n ∷ (corners ++ attributes)) c
 cell_row n corners attributes values is_number are_corners is_cell are_values is_region = record {
   number_word = n;
   corner_words = corners;

@@ -9,9 +9,10 @@ use Rattle.liszt_base.specs.declared.mesh.PointTable.{PointTable}
 use Rattle.text_scan.specs.Rows.{TextRows, text_rows}
 use Rattle.tet_reader.specs.Points.{Points, Cells}
 
--- The answer of a reader: where there is no fault, a value that is spelled; otherwise the first fault. Out of memory is always
--- allowed.
-abbrev pub Reads : {A : Type 0} → (A → Type 0) → Option MeshFault → Result A (Refused MeshFault) → Type 0
+-- The answer of a reader: where there is no fault, a value that is
+-- spelled; otherwise the first fault. Out of memory is always allowed.
+abbrev pub Reads : {A : Type 0} → (A → Type 0) → Option MeshFault → Result A (Refused MeshFault)
+    → Type 0
 Reads Spelled fault (Ok value) = (fault ≡ None) × Spelled value
 Reads Spelled fault (Err (Fault found)) = fault ≡ Some found
 Reads Spelled fault (Err OutOfMemory) = Unit {0}
@@ -20,7 +21,8 @@ Reads Spelled fault (Err OutOfMemory) = Unit {0}
 abbrev pub SpellTable : TextRows → PointTable → Type 0
 SpellTable node table = Points node.rows table.base table.list
 
--- The rows of an ele file spell the cells of this mesh over these points, and the points and cells make a mesh.
+-- The rows of an ele file spell the cells of this mesh over
+-- these points, and the points and cells make a mesh.
 pub record SpellMesh (table : PointTable) (ele : TextRows) (mesh : MeshLists) : Type 0 where
   pub points_are : mesh.points ≡ table.list
   pub base_is : mesh.base ≡ table.base

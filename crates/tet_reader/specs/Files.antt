@@ -9,9 +9,11 @@ five_points = codes "5 3 0 0\n0 0 0 0\n1 1 0 0\n2 0 1 0\n3 0 0 1\n4 1 1 1\n"
 abbrev pub six_points : List ℕ
 six_points = codes "6 3 0 0\n0 0 0 0\n1 1 0 0\n2 0 1 0\n3 0 0 1\n4 1 1 1\n5 2 2 2\n"
 
--- Points numbered from 1, with an attribute and a marker each, and a cell numbered from 0 with two attributes.
+-- Points numbered from 1, with an attribute and a marker
+-- each, and a cell numbered from 0 with two attributes.
 abbrev pub marked_points : List ℕ
-marked_points = codes "4 3 1 1\n1 1 2 3 .5 7\n# next\n2 0 1e-05 0 0 -1\n3 0 1 0 0 0\n4 0 -0.0000019 1 1e3 2\n"
+marked_points =
+    codes "4 3 1 1\n1 1 2 3 .5 7\n# next\n2 0 1e-05 0 0 -1\n3 0 1 0 0 0\n4 0 -0.0000019 1 1e3 2\n"
 
 abbrev pub four_marked : List Point
 four_marked =

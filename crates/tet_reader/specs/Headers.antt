@@ -1,10 +1,12 @@
--- The headers of a mesh's two files, .node and .ele of TetGen. That words may be missing on the right, and the limits, are this
--- project's own.
-use Rattle.std.specs.Prelude.{◌≡◌, ℕ, ◌≤◌, ◌&&◌, nat_le, if◌then◌else◌, true, Option, Some, List, [], ◌∷◌, ◌++◌, map, drop, length, ℤ, pos, negsuc, slice_index_or}
+-- The headers of a mesh's two files, .node and .ele of TetGen. That words
+-- may be missing on the right, and the limits, are this project's own.
+use Rattle.std.specs.Prelude.{◌≡◌, ℕ, ◌≤◌, ◌&&◌, nat_le, if◌then◌else◌, true, Option, Some, List}
+use Rattle.std.specs.Prelude.{[], ◌∷◌, ◌++◌, map, drop, length, ℤ, pos, negsuc, slice_index_or}
 use Rattle.std.specs.List.{list_all}
 use Rattle.std.specs.Str.Parse.{signed_digits_value}
 use Rattle.liszt_base.specs.declared.answers.MeshWhat.{MeshWhat}
-use Rattle.liszt_base.specs.declared.answers.MeshWhat.TheVariants.{Header, Dimension, SecondOrder, TooMany}
+use Rattle.liszt_base.specs.declared.answers.MeshWhat.TheVariants.{Header, Dimension}
+use Rattle.liszt_base.specs.declared.answers.MeshWhat.TheVariants.{SecondOrder, TooMany}
 use Rattle.liszt_base.specs.Limits.{point_limit, cell_limit}
 use Rattle.text_scan.specs.Numbers.{is_whole}
 use Rattle.tet_reader.specs.Tests.{unless, is_within}
@@ -13,21 +15,21 @@ use Rattle.tet_reader.specs.Tests.{unless, is_within}
 abbrev pub attribute_limit : ℕ
 attribute_limit = 64
 
--- The numbers of a header's words, followed by the defaults of the missing words. A row has at least one word, so the count is
--- never missing.
+-- The numbers of a header's words, followed by the defaults of the missing
+-- words. A row has at least one word, so the count is never missing.
 abbrev pub header_numbers : List ℤ → List (List ℕ) → List ℤ
 header_numbers missing words = map (signed_digits_value 10) words ++ drop (length words) missing
 
--- Of a node file: the number of points, the dimension, the numbers of attributes and markers. Of an ele file: the number of
--- cells, the number of corners and the number of attributes.
+-- Of a node file: the number of points, the dimension, the numbers of attributes and markers.
+-- Of an ele file: the number of cells, the number of corners and the number of attributes.
 abbrev pub node_numbers : List (List ℕ) → List ℤ
 node_numbers = header_numbers (pos 0 ∷ pos 3 ∷ pos 0 ∷ pos 0 ∷ [])
 
 abbrev pub ele_numbers : List (List ℕ) → List ℤ
 ele_numbers = header_numbers (pos 0 ∷ pos 4 ∷ pos 0 ∷ [])
 
--- The words are the header of n points with these numbers of attributes and markers each, or of n cells with this number of
--- attributes each.
+-- The words are the header of n points with these numbers of attributes
+-- and markers each, or of n cells with this number of attributes each.
 pub record IsNodeHeader (words : List (List ℕ)) (points attributes markers : ℕ) : Type 0 where
   pub spelled : list_all is_whole words ≡ true
   pub numbers : node_numbers words ≡ pos points ∷ pos 3 ∷ pos attributes ∷ pos markers ∷ []

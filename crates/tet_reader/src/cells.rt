@@ -81,8 +81,12 @@ fn cell_rows(
 ) -> Result<CellList, Refused<MeshFault>>
     requires heads { HeadsEle rows.now.rows header }
     requires first { first ≡ FirstNumber (drop 1 rows.now.rows) }
-    ensures { ReadsRows (AreNumbered (IsCellRow header.attributes points base) first
-        (drop 1 rows.now.rows)) header.cells rows.now.rows (ele_fault points base rows.now) result }
+    ensures { ReadsRows (AreNumbered (IsCellRow (record {
+      attributes = header.attributes;
+      points = points;
+      base = base;
+    })) first (drop 1 rows.now.rows)) header.cells rows.now.rows (ele_fault points base rows.now)
+        result }
 {
     let mut cells = CellList::new(alloc);
     let mut numbers = NumberRow::new();
@@ -116,8 +120,8 @@ fn cell_row(
         (cell_words header.attributes points base (first + place))
         (row_at rows.now.rows (place + 1)).words ++ unless
         (AreDifferent (row_corners base (row_at rows.now.rows (place + 1)).words)) CornerTwice ∷ [])
-        (IsCellRow header.attributes points base (first + place)
-        (row_at rows.now.rows (place + 1)).words) result }
+        (IsCellRow (record { attributes = header.attributes; points = points; base = base })
+        (first + place) (row_at rows.now.rows (place + 1)).words) result }
 {
     let kind = RowKind::CellRow(header.attributes, base, points);
     match kind.read_row(rows, place, header.cells, first, numbers) {

@@ -1,6 +1,7 @@
 ghost use Rattle.std.specs.Prelude.{◌≡◌, ◌+◌, ◌^◌, ◌<◌, ◌≤◌, [], Some, length, slice_get};
 ghost use Rattle.text_scan.specs.Rows.{row_at};
-ghost use Rattle.tet_reader.specs.Internal.RowKinds.{expected_words, ReadsRow, ReadsWords};
+ghost use Rattle.tet_reader.specs.Tests.{row_tests};
+ghost use Rattle.tet_reader.specs.Internal.RowKinds.{expected_words, word_tests, ReadsRow};
 
 use crate::number_row::NumberRow;
 use crate::words::{Word, read_word};
@@ -53,7 +54,8 @@ impl RowKind {
         requires place { place + 1 < length rows.now.rows }
         requires few { count + first < 2 ^ 32 }
         requires short { length (expected_words self 0) ≤ 69 }
-        ensures { ReadsRow count place (expected_words self (first + place))
+        ensures { ReadsRow (row_tests count place (expected_words self (first + place))
+            (row_at rows.now.rows (place + 1)).words) (expected_words self (first + place))
             (row_at rows.now.rows (place + 1)).words numbers.new result }
     {
         if place >= count as usize {
@@ -82,7 +84,8 @@ impl RowKind {
         requires words { length (row_at rows.now.rows row).words ≡ length (expected_words self 0) }
         requires short { length (expected_words self 0) ≤ 69 }
         requires none { numbers.old ≡ [] }
-        ensures { ReadsWords (expected_words self number)
+        ensures { ReadsRow (word_tests (expected_words self number)
+            (row_at rows.now.rows row).words) (expected_words self number)
             (row_at rows.now.rows row).words numbers.new result }
     {
         for place in 0..self.words() {

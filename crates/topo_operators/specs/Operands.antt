@@ -19,7 +19,9 @@ IsNilOrElement mesh kind (Some x) = IsElement mesh kind x
 
 -- the operands of `towards`: an edge and a vertex, or a face and a cell
 abbrev pub AreTowardsOperands : MeshLists → Option Elem → Option Elem → Type 0
-AreTowardsOperands mesh x to = (IsNilOrElement mesh Edge x × IsNilOrElement mesh Vertex to) ⊎ (IsNilOrElement mesh Face x × IsNilOrElement mesh Cell to)
+AreTowardsOperands mesh x to =
+    (IsNilOrElement mesh Edge x × IsNilOrElement mesh Vertex to)
+    ⊎ (IsNilOrElement mesh Face x × IsNilOrElement mesh Cell to)
 
 -- an element of the mesh whose kind has this set
 pub record IsSetOperand (mesh : MeshLists) (set : SetName) (x : Elem) : Type 0 where

@@ -1,6 +1,8 @@
--- The oriented operators and the sets of elements. The operators are the Liszt paper's (DeVito et al., Supercomputing
--- 2011); which orientation is which, nil and the orders are this project's own.
-use Rattle.std.specs.Prelude.{◌≡◌, ℕ, ◌<◌, ◌==◌, ◌&&◌, not, nat_lt, if◌then◌else◌, Bool, true, false, Option, Some, None, List, [], ◌∷◌, map, reverse, slice_get, slice_index, unwrap_or, is_some}
+-- The oriented operators and the sets of elements. The operators are the Liszt paper's (DeVito et
+-- al., Supercomputing 2011); which orientation is which, nil and the orders are this project's own.
+use Rattle.std.specs.Prelude.{◌≡◌, ℕ, ◌<◌, ◌==◌, ◌&&◌, not, nat_lt, if◌then◌else◌}
+use Rattle.std.specs.Prelude.{Bool, true, false, Option, Some, None, List, [], ◌∷◌}
+use Rattle.std.specs.Prelude.{map, reverse, slice_get, slice_index, unwrap_or, is_some}
 use Rattle.std.specs.List.{find}
 use Rattle.std.specs.Option.{option_and_then, option_map}
 pub use Rattle.liszt_base.specs.Kinds.{is_kind, has_set}
@@ -9,8 +11,10 @@ use Rattle.liszt_base.specs.declared.elements.Elem.{Elem}
 use Rattle.liszt_base.specs.declared.elements.Kind.{Kind}
 use Rattle.liszt_base.specs.declared.elements.Kind.TheVariants.{Vertex, Edge, Face, Cell}
 use Rattle.liszt_base.specs.declared.elements.SetName.{SetName}
-use Rattle.liszt_base.specs.declared.elements.SetName.TheVariants.{Vertices, Edges, Faces, Cells, EdgesCcw}
-use Rattle.mesh_topology.specs.Elements.{count, corners, id_of_corners, near, sides, rotation_from, steps, face_cycle}
+use Rattle.liszt_base.specs.declared.elements.SetName.TheVariants.{Vertices, Edges, Faces}
+use Rattle.liszt_base.specs.declared.elements.SetName.TheVariants.{Cells, EdgesCcw}
+use Rattle.mesh_topology.specs.Elements.{count, corners, id_of_corners, near}
+use Rattle.mesh_topology.specs.Elements.{sides, rotation_from, steps, face_cycle}
 
 -- An element is an operand or a result with its orientation; nil is `None`.
 abbrev pub unflipped : Kind → ℕ → Elem
@@ -20,10 +24,12 @@ unflipped kind id = record { kind = kind; id = id; flipped = false }
 abbrev pub reversed : Elem → Elem
 reversed x = record { kind = x.kind; id = x.id; flipped = not x.flipped }
 
--- ENDS AND SIDES. An unflipped edge goes from its smaller corner, the tail, to its larger one, the head. The inside of an
--- unflipped face is the first of the cells beside it, and its outside the second, or nil. Flipping swaps them.
+-- ENDS AND SIDES. An unflipped edge goes from its smaller corner, the tail, to
+-- its larger one, the head. The inside of an unflipped face is the first of the
+-- cells beside it, and its outside the second, or nil. Flipping swaps them.
 abbrev pub vertex_at : MeshLists → Elem → ℕ → Option Elem
-vertex_at mesh edge place = option_map (unflipped Vertex) (slice_get (corners mesh Edge edge.id) place)
+vertex_at mesh edge place =
+    option_map (unflipped Vertex) (slice_get (corners mesh Edge edge.id) place)
 
 abbrev pub cell_at : MeshLists → Elem → ℕ → Option Elem
 cell_at mesh face place = option_map (unflipped Cell) (slice_get (sides mesh face.id) place)
@@ -57,7 +63,8 @@ outside mesh x = option_and_then (outside_of mesh) x
 abbrev pub flip : Option Elem → Option Elem
 flip x = option_map reversed x
 
--- Two elements are the same if their kinds and ids are equal, in any orientations. Nil is the same as nil, and as no element.
+-- Two elements are the same if their kinds and ids are equal, in
+-- any orientations. Nil is the same as nil, and as no element.
 abbrev pub same : Option Elem → Option Elem → Bool
 same None None = true
 same (Some x) (Some y) = is_kind x.kind y.kind && (x.id == y.id)
@@ -80,20 +87,26 @@ orientations x = unflipped x.kind x.id ∷ reversed (unflipped x.kind x.id) ∷ 
 
 -- the orientation of `x` that points to `to`, or nil if neither does
 abbrev pub towards_of : MeshLists → Elem → Elem → Option Elem
-towards_of mesh x to = find (λ orientation. same (points_to mesh orientation) (Some to)) (orientations x)
+towards_of mesh x to =
+    find (λ orientation. same (points_to mesh orientation) (Some to)) (orientations x)
 
 abbrev pub towards : MeshLists → Option Elem → Option Elem → Option Elem
 towards mesh x to = option_and_then (λ x'. option_and_then (towards_of mesh x') to) x
 
--- SETS. The cycle of a face begins with its smallest corner; flipping the face reverses it. Its edges are in the order of the
--- cycle, each oriented along it.
+-- SETS. The cycle of a face begins with its smallest corner; flipping the face
+-- reverses it. Its edges are in the order of the cycle, each oriented along it.
 abbrev pub cycle_of : MeshLists → Elem → List ℕ
 cycle_of mesh face =
-    if face.flipped then rotation_from (slice_index (corners mesh Face face.id) 0) (reverse (face_cycle mesh face.id)) else face_cycle mesh face.id
+    if face.flipped then rotation_from (slice_index (corners mesh Face face.id) 0)
+    (reverse (face_cycle mesh face.id)) else face_cycle mesh face.id
 
 abbrev pub edge_along : MeshLists → ℕ × ℕ → Elem
 edge_along mesh step =
-    record { kind = Edge; id = unwrap_or (id_of_corners mesh Edge (step.0 ∷ step.1 ∷ [])) 0; flipped = nat_lt step.1 step.0 }
+    record {
+      kind = Edge;
+      id = unwrap_or (id_of_corners mesh Edge (step.0 ∷ step.1 ∷ [])) 0;
+      flipped = nat_lt step.1 step.0;
+    }
 
 -- an edge of the mesh that goes from the first vertex of a step to the second
 pub record GoesAlong (mesh : MeshLists) (step : ℕ × ℕ) (edge : Elem) : Type 0 where
@@ -102,7 +115,8 @@ pub record GoesAlong (mesh : MeshLists) (step : ℕ × ℕ) (edge : Elem) : Type
   pub from : tail mesh (Some edge) ≡ Some (unflipped Vertex step.0)
   pub to : head mesh (Some edge) ≡ Some (unflipped Vertex step.1)
 
--- the members of a set of an element: the elements near it, unflipped, by ascending id; for `edges_ccw` the edges of its cycle
+-- the members of a set of an element: the elements near it,
+-- unflipped, by ascending id; for `edges_ccw` the edges of its cycle
 abbrev pub members : MeshLists → SetName → Elem → List Elem
 members mesh Vertices x = map (unflipped Vertex) (near mesh x.kind x.id Vertex)
 members mesh Edges x = map (unflipped Edge) (near mesh x.kind x.id Edge)

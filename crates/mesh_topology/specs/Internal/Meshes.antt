@@ -19,8 +19,10 @@ abbrev pub one_reversed : MeshLists
 one_reversed = record { points = replicate 5 some_point; cells = cell 1 0 2 3 ∷ []; base = 0 }
 
 abbrev pub two_cells : MeshLists
-two_cells = record { points = replicate 5 some_point; cells = cell 0 1 2 3 ∷ cell 1 2 3 4 ∷ []; base = 0 }
+two_cells =
+    record { points = replicate 5 some_point; cells = cell 0 1 2 3 ∷ cell 1 2 3 4 ∷ []; base = 0 }
 
 -- two cells that share an edge and no face
 abbrev pub two_at_an_edge : MeshLists
-two_at_an_edge = record { points = replicate 6 some_point; cells = cell 0 1 2 3 ∷ cell 0 1 4 5 ∷ []; base = 0 }
+two_at_an_edge =
+    record { points = replicate 6 some_point; cells = cell 0 1 2 3 ∷ cell 0 1 4 5 ∷ []; base = 0 }

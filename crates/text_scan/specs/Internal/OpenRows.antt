@@ -14,7 +14,8 @@ pub record OpenRows : Type 0 where
 abbrev pub rows_of_ends : List RowEnd → List (List (List ℕ)) → List Row
 rows_of_ends [] pieces = []
 rows_of_ends (end ∷ ends) [] = []
-rows_of_ends (end ∷ ends) (piece ∷ pieces) = record { line = end.line; words = piece } ∷ rows_of_ends ends pieces
+rows_of_ends (end ∷ ends) (piece ∷ pieces) =
+    record { line = end.line; words = piece } ∷ rows_of_ends ends pieces
 
 -- The words of a text without a comment.
 abbrev pub words_in : List ℕ → List (List ℕ)

@@ -1,4 +1,4 @@
-use Rattle.liszt_parser.proofs.RoundTrip.{reads_back, only_too_many, stays_shallow}
+use Rattle.liszt_parser.proofs.CanonicalReading.{reads_back, only_too_many, stays_shallow}
 use Rattle.liszt_parser.proofs.laws.canonical_reads_back.Goals as goal
 
 pub returns-clause-derives : goal.returns-clause-derives

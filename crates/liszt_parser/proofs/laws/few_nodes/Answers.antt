@@ -1,4 +1,4 @@
-use Rattle.liszt_parser.proofs.FewNodes.{nodes_within}
+use Rattle.liszt_parser.proofs.NodeCountLemmas.{nodes_within}
 use Rattle.liszt_parser.proofs.laws.few_nodes.Goals as goal
 
 pub returns : goal.returns

@@ -1,6 +1,7 @@
 use Rattle.std.proofs.Common.{◌<◌, ◌+◌, subst, drop, length, arith, sym, ap, ◌∙◌, length-drop}
 use Rattle.tet_reader.specs.Tests.{first_some}
 use Rattle.tet_reader.specs.Points.{IsCellRow}
+use Rattle.tet_reader.proofs.Forms.{cell_form}
 use Rattle.tet_reader.proofs.Lists.{cell_tests}
 use Rattle.tet_reader.proofs.RowReadingLemmas.{row_read, all_rows_read}
 use Rattle.tet_reader.proofs.NodeReading.{after_first}
@@ -20,7 +21,7 @@ loop-place-preserved c =
     let rows = drop 1 c.args.rows.now.rows in
     let h = c.args.header in
     let tests = cell_tests h.cells h.attributes c.args.points c.args.base c.args.first in
-    let IsRow = IsCellRow h.attributes c.args.points c.args.base in
+    let IsRow = IsCellRow (cell_form h.attributes c.args.points c.args.base) in
     let place = c.loop-place.place in
     let inside : place < length rows =
     omega (arith, c.loop-place-test.true, c.len-place-end.ensures, length-drop 1 c.args.rows.now.rows) in
@@ -33,7 +34,7 @@ pub returns : goal.returns
 returns c =
     let rows = drop 1 c.args.rows.now.rows in
     let h = c.args.header in
-    let all = all_rows_read (cell_tests h.cells h.attributes c.args.points c.args.base c.args.first) (IsCellRow h.attributes c.args.points c.args.base)
+    let all = all_rows_read (cell_tests h.cells h.attributes c.args.points c.args.base c.args.first) (IsCellRow (cell_form h.attributes c.args.points c.args.base))
     c.args.first rows c.loop-place.cells c.loop-place.place c.loop-place.invariant
     (omega (arith, c.loop-place-test.false, c.len-place-end.ensures, length-drop 1 c.args.rows.now.rows)) in
     (all.1, cells_within c.args.points c.args.base rows h c.args.first all.0)

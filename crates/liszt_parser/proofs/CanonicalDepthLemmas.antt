@@ -14,12 +14,12 @@ use Rattle.liszt_tree.specs.declared.tree.Sign.TheVariants as sign
 use Rattle.liszt_tree.specs.Canonical.{kind_word, mesh_set_word, set_word, fun_word, how_text, sign_text, rel_text, chain_level, level_of}
 use Rattle.liszt_tree.specs.Tree.{Expression, Number, Name, Field, Call, Towards, Neg, Not, Chain, Compare, Links, no_links, link, Statement, Var, Val, Assign, If, While, For, Body, no_statement, statement, MainItem, MainField, MainVar, MainAssign, MainIf, MainWhile, MainFor, Print, Main, no_item, item}
 use Rattle.liszt_parser.specs.Grammar.{Lexeme, open_bracket, close_bracket, open_brace, close_brace, comma, semicolon, colon, arrow, minus, bang, set_to, field_word, if_word, else_word, while_word, for_word, print_word, mesh_word, towards_word}
-use Rattle.liszt_parser.proofs.RoundTripDeep.{in_brackets_deep, expression_deep, links_deep, target_deep, else_deep, statement_deep, body_deep, item_deep, main_deep}
-use Rattle.liszt_parser.proofs.RoundTripFronts.{IsQuiet, ShallowIn, no_front}
-use Rattle.liszt_parser.proofs.RoundTripKinds.{IsLead, opening, closing, opening_brace, closing_brace, minus_operator, bang_operator, quiet_name, name_atom, number_atom, name_caller, word_caller, word_lead, fun_caller, kind_lead, set_caller, rel_infix, how_lead, quiet_of, infix_of, lead_of}
-use Rattle.liszt_parser.proofs.RoundTripSegments.{Entry, Anywhere, AsLoose, AsOperand, AsAtom, Segment, Operand, LinkList, IsInfix, IsHead, no_head, one_head, nothing, an_atom, an_operator, in_brackets as bracketed_part, weaker, no_link, a_link, a_chain, then_line, then_part, then_end, before_part, before_loose, before_line, as_part, braces}
-use Rattle.liszt_parser.proofs.RoundTripTree.{placed_word, later, placed, fun_has_value, kind_has_value, set_has_value, rel_has_value, how_has_value}
-use Rattle.liszt_parser.proofs.RoundTripWords.{Words, spelt, fun_token, kind_token, whole_token, set_token, sign_token, rel_token, how_token, bracketed_words, words_in, words_of, links_words, closed_words, declared_words, target_words, ended_words, else_words, statement_words, body_words, item_words, main_words}
+use Rattle.liszt_parser.proofs.TreeDepthLemmas.{in_brackets_deep, expression_deep, links_deep, target_deep, else_deep, statement_deep, body_deep, item_deep, main_deep}
+use Rattle.liszt_parser.proofs.PrefixDepthLemmas.{IsQuiet, ShallowIn, no_front}
+use Rattle.liszt_parser.proofs.KindDepthLemmas.{IsLead, opening, closing, opening_brace, closing_brace, minus_operator, bang_operator, quiet_name, name_atom, number_atom, name_caller, word_caller, word_lead, fun_caller, kind_lead, set_caller, rel_infix, how_lead, quiet_of, infix_of, lead_of}
+use Rattle.liszt_parser.proofs.SegmentDepthLemmas.{Entry, Anywhere, AsLoose, AsOperand, AsAtom, Segment, Operand, LinkList, IsInfix, IsHead, no_head, one_head, nothing, an_atom, an_operator, in_brackets as bracketed_part, weaker, no_link, a_link, a_chain, then_line, then_part, then_end, before_part, before_loose, before_line, as_part, braces}
+use Rattle.liszt_parser.proofs.CanonicalTreeLemmas.{placed_word, later, placed, fun_has_value, kind_has_value, set_has_value, rel_has_value, how_has_value}
+use Rattle.liszt_parser.proofs.CanonicalTokens.{Words, spelt, fun_token, kind_token, whole_token, set_token, sign_token, rel_token, how_token, bracketed_words, words_in, words_of, links_words, closed_words, declared_words, target_words, ended_words, else_words, statement_words, body_words, item_words, main_words}
 use Rattle.liszt_base.specs.Limits.{depth_limit}
 
 -- an operator of a chain stands between operands

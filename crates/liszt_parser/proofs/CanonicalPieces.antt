@@ -22,7 +22,7 @@ use Rattle.liszt_tree.specs.declared.tree.Sign.TheVariants as sign
 use Rattle.liszt_tree.specs.Canonical.{kind_word, mesh_set_word, set_word, fun_word, how_text, sign_text, rel_text, chain_level, level_of, bracketed_text, spaced_text, expression_text, links_text, line, terminated_line, declaration_text, head_text, target_text, else_text, statement_text, body_text, item_text, main_text, canonical}
 use Rattle.liszt_tree.specs.Tree.{Expression, Number, Name, Field, Call, Towards, Neg, Not, Chain, Compare, Links, no_links, link, Statement, Var, Val, Assign, If, While, For, Body, no_statement, statement, MainItem, MainField, MainVar, MainAssign, MainIf, MainWhile, MainFor, Print, Main, no_item, item}
 use Rattle.liszt_parser.specs.Grammar.{open_bracket, close_bracket, open_brace, close_brace, comma, semicolon, colon, arrow, minus, bang, set_to, field_word, var_word, val_word, if_word, else_word, while_word, for_word, print_word, mesh_word, towards_word}
-use Rattle.liszt_parser.proofs.RoundTripWords.{Words, spelt, fun_token, kind_token, whole_token, set_token, sign_token, rel_token, how_token, bracketed_words, words_in, words_of, links_words, declared_words, headed_words, target_words, ended_words, else_words, statement_words, body_words, item_words, main_words, IsWritable, AreWritable, IsWritableTarget, IsWritableStatement, IsWritableBody, IsWritableItem, IsWritableMain}
+use Rattle.liszt_parser.proofs.CanonicalTokens.{Words, spelt, fun_token, kind_token, whole_token, set_token, sign_token, rel_token, how_token, bracketed_words, words_in, words_of, links_words, declared_words, headed_words, target_words, ended_words, else_words, statement_words, body_words, item_words, main_words, IsWritable, AreWritable, IsWritableTarget, IsWritableStatement, IsWritableBody, IsWritableItem, IsWritableMain}
 
 -- THE TEXTS of functions, kinds, sets and operators are these tokens.
 fun_is : (fun : Fun) → IsSpelling (fun_token fun) (fun_word fun)

@@ -6,7 +6,7 @@ use Rattle.std.proofs.lemmas.List.{append-nil}
 use Rattle.liszt_lexer.specs.declared.token.TokenKind.{TokenKind}
 use Rattle.liszt_parser.specs.Depth.{is_open_bracket, is_close_bracket, is_opening, is_closing, closes_bracket, holds_operand, is_operand_end, is_prefix, pending_prefixes, depth}
 use Rattle.liszt_parser.specs.Grammar.{Lexeme}
-use Rattle.liszt_parser.proofs.RoundTripFronts.{of_kind, IsPlain, IsQuiet, IsOperator, counted, not_counted, one_counted, plain_skips, opening_step, closing_step, closing_last, passes, quiet_is_no_prefix, plain_after_operand, unless, unless_none, unless_less, StaysInside, begins_open, Front, depth_of, ShallowIn, chain_tree, parted, after, after_operator}
+use Rattle.liszt_parser.proofs.PrefixDepthLemmas.{of_kind, IsPlain, IsQuiet, IsOperator, counted, not_counted, one_counted, plain_skips, opening_step, closing_step, closing_last, passes, quiet_is_no_prefix, plain_after_operand, unless, unless_none, unless_less, StaysInside, begins_open, Front, depth_of, ShallowIn, chain_tree, parted, after, after_operator}
 use Rattle.liszt_base.specs.Limits.{depth_limit}
 
 -- WHERE A PART MAY STAND: after which token, how many prefix operators wait for it, and whether no bracket may come

@@ -17,9 +17,9 @@ use Rattle.liszt_tree.specs.declared.tree.Sign.{Sign}
 use Rattle.liszt_tree.specs.declared.tree.Sign.TheVariants as sign
 use Rattle.liszt_parser.specs.Depth.{is_open_bracket, is_close_bracket, is_opening, is_closing, is_minus, is_bang, holds_operand, is_operand_end}
 use Rattle.liszt_parser.specs.Grammar.{Lexeme, fun_of, kind_of, mesh_set_of, set_of, sign_of, rel_of, how_of, open_bracket, close_bracket, open_brace, close_brace, minus, bang}
-use Rattle.liszt_parser.proofs.RoundTripFronts.{of_kind, IsPlain, IsQuiet, IsOperator, begins_open}
-use Rattle.liszt_parser.proofs.RoundTripSegments.{IsAtom, IsOpening, IsClosing, IsCaller, IsInfix, IsOpeningBrace, IsClosingBrace}
-use Rattle.liszt_parser.proofs.RoundTripTables.{table_symbol}
+use Rattle.liszt_parser.proofs.PrefixDepthLemmas.{of_kind, IsPlain, IsQuiet, IsOperator, begins_open}
+use Rattle.liszt_parser.proofs.SegmentDepthLemmas.{IsAtom, IsOpening, IsClosing, IsCaller, IsInfix, IsOpeningBrace, IsClosingBrace}
+use Rattle.liszt_parser.proofs.TableLemmas.{table_symbol}
 
 -- BY A TEST
 abbrev pub is_plain : TokenKind → Bool

@@ -16,13 +16,13 @@ use Rattle.liszt_tree.specs.Tree.{Main, Same, nowhere}
 use Rattle.liszt_parser.specs.Depth.{depth}
 use Rattle.liszt_parser.specs.Grammar.{Lexeme, lexemes, Derives}
 use Rattle.liszt_parser.specs.ParseFault.{IsShallow}
-use Rattle.liszt_parser.proofs.RoundTripDeep.{reaches}
-use Rattle.liszt_parser.proofs.RoundTripFronts.{ShallowIn, shallow_here}
-use Rattle.liszt_parser.proofs.RoundTripShallow.{written_shallow}
-use Rattle.liszt_parser.proofs.RoundTripWords.{IsWritableMain, main_words}
-use Rattle.liszt_parser.proofs.RoundTripText.{canonical_spells}
-use Rattle.liszt_parser.proofs.RoundTripTree.{placed, a_main}
-use Rattle.liszt_parser.proofs.RoundTripWritable.{AreSpelled, is_writable}
+use Rattle.liszt_parser.proofs.TreeDepthLemmas.{reaches}
+use Rattle.liszt_parser.proofs.PrefixDepthLemmas.{ShallowIn, shallow_here}
+use Rattle.liszt_parser.proofs.CanonicalDepthLemmas.{written_shallow}
+use Rattle.liszt_parser.proofs.CanonicalTokens.{IsWritableMain, main_words}
+use Rattle.liszt_parser.proofs.CanonicalPieces.{canonical_spells}
+use Rattle.liszt_parser.proofs.CanonicalTreeLemmas.{placed, a_main}
+use Rattle.liszt_parser.proofs.CanonicalTextLemmas.{AreSpelled, is_writable}
 use Rattle.liszt_base.specs.Limits.{depth_limit}
 
 -- the tokens of a text are spelled

@@ -11,8 +11,8 @@ use Rattle.liszt_tree.specs.declared.tree.Sign.{Sign}
 use Rattle.liszt_tree.specs.declared.tree.Sign.TheVariants as sign
 use Rattle.liszt_tree.specs.Tree.{Expression, Links, Statement, Body, MainItem, Main}
 use Rattle.liszt_parser.specs.Grammar.{Lexeme, Rank, sign_of, IsExpression, one_operand, chained, one_sum, compared, no_prefix, negation, logical_not, number, name, field, call, towards, in_brackets, IsLinks, no_more_links, linked, IsBracketed, bracketed, Closes, by_semicolon, by_brace, by_end, IsDeclared, is_declared, IsTarget, no_target, target, IsStatement, var, val, assign, if, while, for, IsBody, no_statements, statements, IsBlock, block, IsElse, no_else, else, IsItem, main_field, main_var, main_assign, main_if, main_while, main_for, print, IsMain, no_items, items, IsMainBlock, main_block, IsMainElse, no_main_else, main_else}
-use Rattle.liszt_parser.proofs.RoundTripTables.{table_symbol}
-use Rattle.liszt_parser.proofs.RoundTripWords.{sign_token, IsWritable, AreWritable, IsWritableTarget, IsElseOf, IsMainElseOf, IsWritableStatement, IsWritableBody, IsWritableItem, IsWritableMain}
+use Rattle.liszt_parser.proofs.TableLemmas.{table_symbol}
+use Rattle.liszt_parser.proofs.CanonicalTokens.{sign_token, IsWritable, AreWritable, IsWritableTarget, IsElseOf, IsMainElseOf, IsWritableStatement, IsWritableBody, IsWritableItem, IsWritableMain}
 
 -- tokens whose bytes spell them
 abbrev pub AreSpelled : List Lexeme → Type 0

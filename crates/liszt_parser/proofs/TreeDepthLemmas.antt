@@ -11,10 +11,10 @@ use Rattle.liszt_tree.specs.Canonical.{chain_level, level_of}
 use Rattle.liszt_tree.specs.Tree.{Expression, Number, Name, Field, Call, Towards, Neg, Not, Chain, Compare, Links, no_links, link, Statement, Var, Val, Assign, If, While, For, Body, no_statement, statement, MainItem, MainField, MainVar, MainAssign, MainIf, MainWhile, MainFor, Print, Main, no_item, item}
 use Rattle.liszt_parser.specs.Grammar.{Lexeme, Rank, chain, comparison, prefix_expression, primary_expression, operand, lowest_rank, IsExpression, one_operand, chained, one_sum, compared, no_prefix, negation, logical_not, number, name, field, call, towards, in_brackets, IsLinks, no_more_links, linked, IsBracketed, bracketed, Closes, by_semicolon, by_brace, by_end, IsDeclared, is_declared, IsTarget, no_target, target, IsStatement, var, val, assign, if, while, for, IsBody, no_statements, statements, IsBlock, block, IsElse, no_else, else, IsItem, main_field, main_var, main_assign, main_if, main_while, main_for, print, IsMain, no_items, items, IsMainBlock, main_block, IsMainElse, no_main_else, main_else}
 use Rattle.liszt_parser.specs.Grammar.{open_bracket, close_bracket, open_brace, close_brace, comma, semicolon, colon, arrow, set_to, field_word, if_word, else_word, while_word, for_word, print_word, mesh_word}
-use Rattle.liszt_parser.proofs.RoundTripFronts.{IsQuiet, IsOperator, ShallowIn, no_front}
-use Rattle.liszt_parser.proofs.RoundTripKinds.{IsLead, opening, closing, opening_brace, closing_brace, minus_operator, bang_operator, quiet_name, name_atom, number_atom, name_caller, word_caller, word_lead, fun_caller, kind_lead, whole_caller, set_caller, sign_infix, rel_infix, how_lead, quiet_of, infix_of, lead_of}
+use Rattle.liszt_parser.proofs.PrefixDepthLemmas.{IsQuiet, IsOperator, ShallowIn, no_front}
+use Rattle.liszt_parser.proofs.KindDepthLemmas.{IsLead, opening, closing, opening_brace, closing_brace, minus_operator, bang_operator, quiet_name, name_atom, number_atom, name_caller, word_caller, word_lead, fun_caller, kind_lead, whole_caller, set_caller, sign_infix, rel_infix, how_lead, quiet_of, infix_of, lead_of}
 use Rattle.liszt_parser.specs.Internal.Sorts.{level_strength, rank_strength}
-use Rattle.liszt_parser.proofs.RoundTripSegments.{Entry, Anywhere, AsLoose, AsOperand, AsAtom, Segment, Operand, LinkList, IsAtom, IsInfix, IsOpening, IsClosing, IsCaller, IsOpeningBrace, IsClosingBrace, IsHead, no_head, one_head, nothing, an_atom, an_operator, in_brackets as bracketed_part, weaker, no_link, a_link, a_chain, then_line, then_part, then_end, before_part, before_loose, before_line, as_part, braces}
+use Rattle.liszt_parser.proofs.SegmentDepthLemmas.{Entry, Anywhere, AsLoose, AsOperand, AsAtom, Segment, Operand, LinkList, IsAtom, IsInfix, IsOpening, IsClosing, IsCaller, IsOpeningBrace, IsClosingBrace, IsHead, no_head, one_head, nothing, an_atom, an_operator, in_brackets as bracketed_part, weaker, no_link, a_link, a_chain, then_line, then_part, then_end, before_part, before_loose, before_line, as_part, braces}
 use Rattle.liszt_base.specs.Limits.{depth_limit}
 
 -- HOW DEEP the canonical text of a tree goes: brackets, braces and prefix operators

@@ -1,0 +1,3 @@
+pub mod RowRankLemmas
+pub mod SpelledRankLemmas
+pub mod BlockLemmas

@@ -1,0 +1,4 @@
+pub mod Blocks
+pub mod PartLists
+pub mod PartsFile
+pub mod Internal
