@@ -41,7 +41,7 @@ use Rattle.liszt_base.specs.Limits.{token_limit}
 use Rattle.liszt_lexer.specs.Lexer.{tokens_of, pieces, findings_after}
 use Rattle.liszt_lexer.specs.declared.token.Token.{Token}
 use Rattle.liszt_lexer.proofs.FindingLemmas.{few_with_limit}
-use Rattle.liszt_parser.proofs.FewNodes.{nodes_within}
+use Rattle.liszt_parser.proofs.NodeCountLemmas.{nodes_within}
 use Rattle.liszt_tree.specs.Tree.{program_tree}
 use Rattle.liszt_base.specs.Gives.{Gives}
 use Rattle.phase_types.specs.Checked.{checked_program, item_count}
