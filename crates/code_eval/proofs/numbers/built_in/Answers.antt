@@ -1,0 +1,7 @@
+use Rattle.std.proofs.Common.{◌≡◌, ◌≢◌, ◌<◌, ℕ, true, ne_eqb}
+use Rattle.liszt_base.specs.MeshLists.{MeshLists}
+use Rattle.code_eval.proofs.FieldLemmas.{point_in_range}
+use Rattle.code_eval.proofs.numbers.built_in.Goals as goal
+
+pub point-point-requires : goal.point-point-requires
+point-point-requires c = point_in_range c.args.m.now c.args.spot c.if-spot-eq4.false c.requires

@@ -1,0 +1,15 @@
+//! The meaning of resolved code, and its evaluator over any store of the values of fields.
+#![tactic(auto)]
+
+mod activation;
+mod elements;
+mod numbers;
+mod shared;
+mod slots;
+mod statements;
+mod truths;
+mod words;
+
+pub use activation::{Activation, Stopped};
+pub use statements::run_body;
+pub use words::Words;
