@@ -4,7 +4,7 @@ use Rattle.std.proofs.lemmas.Bool.{cases_Bool, and_parts}
 use Rattle.std.proofs.lemmas.Result.{err_from_is_err_and}
 use Rattle.std.specs.Option.{option_map}
 use Rattle.std.specs.Result.{IsErrAnd}
-use Rattle.std.specs.Prelude.{Option, Some, None, ℤ, Result, Ok, Err, ◌==◌, ◌&&◌, ◌||◌, cond}
+use Rattle.std.specs.Prelude.{Option, Some, None, ℤ, Result, Ok, Err, ◌&&◌, ◌||◌, cond}
 use mir.Val.{to_z, of_z, SFits}
 use mir.Syntax.{w64}
 use Rattle.std.proofs.lemmas.Int.{to_z-of_z}
@@ -15,10 +15,10 @@ use Rattle.liszt_base.specs.declared.accesses.Spot.{Spot}
 use Rattle.liszt_base.specs.declared.elements.Op.{Op}
 use Rattle.phase_types.specs.Environments.{is_built_in}
 use Rattle.code_eval.specs.Acts.{Act, is_spot, value_by, value_after_act, value_after, changes_value, is_changed}
-use Rattle.code_eval.specs.Executions.{Activation, Executed, Execution, Done, answered, pure, act, stop_in, after_acts, continue_with, ◌>>=◌, HasLed, LeadsTo, CanRun}
+use Rattle.code_eval.specs.Executions.{Activation, Executed, Execution, answered, pure, act, stop_in, after_acts, continue_with, ◌>>=◌, HasLed, LeadsTo, CanRun}
 use Rattle.code_eval.specs.Stops.{Stop, Trapped, NoMeaning}
 use Rattle.code_eval.specs.declared.activation.Stopped.{Stopped}
-use Rattle.code_eval.specs.Stores.{Entry, Load, Store, StoreView, HasSameSpots, IsLoad, IsStore, stored, CallsFor, ForNothing, ForBuiltIn, ForRead, ForWrite, ForReduce, HasLogged, HasActed, AdmitsBy, AdmitsAct, AdmitsAll, Admits}
+use Rattle.code_eval.specs.Stores.{Entry, Load, Store, StoreView, HasSameSpots, IsLoad, IsStore, stored, CallsFor, ForNothing, ForBuiltIn, ForRead, ForWrite, ForReduce, HasActed, AdmitsBy, AdmitsAll, Admits}
 use Rattle.code_eval.specs.Meaning.{read_value}
 
 -- ACTS in sequence
@@ -220,6 +220,7 @@ built_in_acted spot value s b = record {
   same_if : (b : Bool) (v : ℤ) → v ≡ cond b v v
   same_if true v = refl
   same_if false v = refl
+
   flag_if : (b : Bool) (flag : Option Bool) → flag ≡ option_map (λ f. ((b && false) || false) || f) flag
   flag_if true flag = false_flag flag
   flag_if false flag = false_flag flag
@@ -241,6 +242,7 @@ acted_load spot value seen s t b e h = subst (λ n. HasActed (record { spot = sp
   same_if : (b : Bool) (v : ℤ) → v ≡ cond b v v
   same_if true v = refl
   same_if false v = refl
+
   flag_if : (b : Bool) (flag : Option Bool) → flag ≡ option_map (λ f. ((b && false) || false) || f) flag
   flag_if true flag = false_flag flag
   flag_if false flag = false_flag flag

@@ -1,7 +1,6 @@
 -- A `while`, with a bound that is no less than the remaining turns.
-use Rattle.std.proofs.Common.{◌≡◌, ◌≤◌, ◌-◌, ℕ, zero, suc, Bool, true, false, refl, sym, ap, ◌∙◌, subst, arith}
-use Rattle.std.specs.Prelude.{Result, Ok, Err}
-use Rattle.liszt_base.specs.declared.accesses.Spot.{Spot}
+use Rattle.std.proofs.Common.{◌≡◌, ◌≤◌, ℕ, zero, suc, Bool, true, false, refl, ap, subst, arith}
+use Rattle.std.specs.Prelude.{Err}
 use Rattle.code_eval.specs.Executions.{Activation, Execution, Done, pure, answered, ◌>>=◌, ◌>>◌, if_then_else, take_turn, with_turns, loop_within, loop, LeadsTo}
 use Rattle.code_eval.specs.Stops.{Stop}
 use Rattle.code_eval.specs.Stores.{StoreView}

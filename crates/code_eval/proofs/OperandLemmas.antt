@@ -1,8 +1,8 @@
 -- Operands of operators and sets, as the meaning tests them.
-use Rattle.std.proofs.Common.{◌≡◌, ◌≢◌, ◌<◌, ◌⊎◌, ℕ, Bool, true, false, List, refl, sym, ap, ◌∙◌, subst, inl, inr}
-use Rattle.std.proofs.lemmas.Bool.{cases_Bool, ltb-true, and_parts}
+use Rattle.std.proofs.Common.{◌≡◌, ◌≢◌, ◌⊎◌, ℕ, Bool, true, false, List, refl, sym, ap, ◌∙◌, inl, inr}
+use Rattle.std.proofs.lemmas.Bool.{ltb-true, and_parts}
 use Rattle.std.specs.Option.{option_and_then}
-use Rattle.std.specs.Prelude.{Option, Some, None, ℤ, Err, is_some, cond, nat_lt, ◌&&◌, ◌||◌}
+use Rattle.std.specs.Prelude.{Option, Some, None, ℤ, Err, is_some, nat_lt, ◌&&◌, ◌||◌}
 use Rattle.liszt_base.specs.Kinds.{is_kind, has_set}
 use Rattle.liszt_base.specs.MeshLists.{MeshLists}
 use Rattle.liszt_base.specs.declared.elements.Elem.{Elem}
@@ -10,7 +10,7 @@ use Rattle.liszt_base.specs.declared.elements.Kind.{Kind}
 use Rattle.liszt_base.specs.declared.elements.Kind.TheVariants.{Vertex, Edge, Face, Cell}
 use Rattle.liszt_base.specs.declared.elements.SetName.{SetName}
 use Rattle.mesh_topology.specs.Elements.{count}
-use Rattle.topo_operators.specs.Operands.{IsElement, IsNilOrElement, AreTowardsOperands, IsSetOperand}
+use Rattle.topo_operators.specs.Operands.{IsNilOrElement, AreTowardsOperands, IsSetOperand}
 use Rattle.liszt_base.specs.declared.accesses.Spot.{Spot}
 use Rattle.phase_types.specs.Environments.{is_built_in}
 use Rattle.resolved_code.specs.declared.expressions.ElementCode.{ElementCode}

@@ -1,13 +1,11 @@
 -- Whether a number is in range, as the code tests it.
-use Rattle.std.proofs.Common.{◌≡◌, ◌≢◌, ◌<◌, ℕ, zero, suc, Bool, true, false, refl, sym, ap, ◌∙◌, subst, inl, inr, arith}
-use Rattle.std.proofs.Math.Dec.{leb}
+use Rattle.std.proofs.Common.{◌≡◌, ◌≢◌, zero, suc, true, false, refl, sym, ap, ◌∙◌, subst, inl, inr, arith}
 use Rattle.std.proofs.lemmas.Bool.{cases_Bool, lt-ltb, ltb-true, le-leb, leb-true, and_parts}
-use Rattle.std.specs.Prelude.{Option, Some, None, ℤ, pos, negsuc, int_le, ◌&&◌, Result, Ok, Err}
+use Rattle.std.specs.Prelude.{Option, Some, None, ℤ, pos, negsuc, int_le, ◌&&◌, Err}
 use Rattle.std.specs.Option.{SomeIff}
 use Rattle.std.proofs.lemmas.Int.{to_z-of_z}
 use mir.Val.{SFits, to_z, of_z}
 use mir.Syntax.{w64}
-use Rattle.liszt_base.specs.declared.accesses.Spot.{Spot}
 use Rattle.liszt_base.specs.declared.answers.Place.{Place}
 use Rattle.liszt_base.specs.declared.answers.TrapKind.TheVariants.{Overflow, ZeroDivide}
 use Rattle.code_eval.specs.Arithmetic.{is_in_range}

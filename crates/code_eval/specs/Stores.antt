@@ -61,7 +61,7 @@ pub data CallsFor : List Act → List Entry → Type 0 where
   ForReduce : {acts : List Act} {entries : List Entry} {op : Op} (spot : Spot) (value old : ℤ)
       → CallsFor acts entries
       → CallsFor (record { spot = spot; mode = Reduce op; value = value } ∷ acts)
-        (Load spot old ∷ Store spot (fold op old value) ∷ entries)
+      (Load spot old ∷ Store spot (fold op old value) ∷ entries)
 
 pub record HasLogged (acts : List Act) (s t : StoreView) (entries : List Entry) : Type 0 where
   pub new_entries : List Entry

@@ -8,7 +8,7 @@ ghost use Rattle.code_eval.specs.Stores.{StoreView};
 ghost use Rattle.code_eval.specs.Meaning.{checked_number, field_read, id_result, number_execution, number_operand, number_rest, operator_result, spot_read};
 ghost use Rattle.resolved_code.specs.declared.expressions.Arithmetic.TheVariants.{Over, Rest};
 
-use crate::activation::{stop, Activation, Stopped};
+use crate::activation::{Activation, Stopped, stop};
 use crate::elements::element;
 use crate::slots::number_at;
 use crate::words::Words;
@@ -52,13 +52,7 @@ fn remainder(place: Place, n: i64, k: i64, a: &mut Activation) -> Result<i64, St
 }
 
 /// The result of an operator between two numbers.
-fn operate(
-    op: Arithmetic,
-    place: Place,
-    n: i64,
-    k: i64,
-    a: &mut Activation,
-) -> Result<i64, Stopped>
+fn operate(op: Arithmetic, place: Place, n: i64, k: i64, a: &mut Activation) -> Result<i64, Stopped>
     ensures { (s : StoreView) → LeadsTo (operator_result op place n k) a.old s
         (answered (stop_in result a.new)) a.new s }
 {

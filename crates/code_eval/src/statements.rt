@@ -6,13 +6,13 @@ ghost use Rattle.code_eval.specs.Arithmetic.{assigned_value, operand as OperandO
 ghost use Rattle.code_eval.specs.Executions.{CanRun, LeadsTo, answered, loop, stop_in, trap};
 ghost use Rattle.code_eval.specs.Meaning.{assign_field, body_execution, set_members, statement_execution, truth_execution, visit_members};
 
-use crate::activation::{stop, Activation, Stopped};
+use crate::activation::{Activation, Stopped, stop};
 use crate::elements::element;
 use crate::numbers::number;
 use crate::slots::{number_at, set_element, set_number};
 use crate::truths::truth;
 use crate::words::Words;
-use liszt_base::{fold_op, Elem, Op, Place, SetName, Spot, TrapKind};
+use liszt_base::{Elem, Op, Place, SetName, Spot, TrapKind, fold_op};
 use liszt_tree::How;
 use mesh_topology::Mesh;
 use resolved_code::{StatementCode, TruthCode};

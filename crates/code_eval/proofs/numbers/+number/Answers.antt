@@ -1,4 +1,4 @@
-use Rattle.std.proofs.Common.{rules, arith, refl, sym, ap, ◌∙◌, subst, ◌≡◌, ◌≢◌, ◌<◌, ◌≤◌, ◌+◌, get_or, pos, None, Some, Ok, Err, map, neg_ℤ, ℕ, length, List, ◌∷◌, drop}
+use Rattle.std.proofs.Common.{rules, refl, sym, ap, ◌∙◌, subst, ◌≡◌, get_or, pos, Err, map, neg_ℤ}
 use Rattle.std.proofs.lemmas.Int.{to_z-of_z}
 use mir.Val.{to_z, of_z, SFits}
 use mir.Syntax.{w64}
@@ -36,7 +36,7 @@ number-element-x-requires g t c = element_can c.args.m.now c.in-Field.arg c.as_s
 pub number-read_field-requires : goal.number-read_field-requires
 number-read_field-requires g t c =
     let can : CanRun (element_execution c.args.m.now c.in-Field.arg >>= λ x. field_read c.args.m.now c.in-Field.place c.in-Field.field x) c.args.a.now (g.W.Words.store c.args.w.now) =
-        subst (λ p. CanRun p c.args.a.now (g.W.Words.store c.args.w.now)) (ap (number_execution c.args.m.now) c.in-Field.is ∙ field_is c.args.m.now c.in-Field.place c.in-Field.field c.in-Field.arg) c.requires in
+    subst (λ p. CanRun p c.args.a.now (g.W.Words.store c.args.w.now)) (ap (number_execution c.args.m.now) c.in-Field.is ∙ field_is c.args.m.now c.in-Field.place c.in-Field.field c.in-Field.arg) c.requires in
     can_then can (given_value _ (element_given c.args.m.now c.in-Field.arg c.as_slice-in-Field.ensures c.element-x.ensures))
 
 pub number-returns-in-Field : goal.number-returns-in-Field
@@ -55,7 +55,7 @@ number-returns-in-Id g t c =
 pub number-number-requires : goal.number-number-requires
 number-number-requires g t c κs within =
     let can : CanRun (number_execution c.args.m.now c.get.result.now) c.args.a.now (g.W.Words.store c.args.w.now) =
-        rw c.get.ensures (can_first _ (subst (λ p. CanRun p c.args.a.now (g.W.Words.store c.args.w.now)) (ap (number_execution c.args.m.now) c.in-Neg.is ∙ neg_is c.args.m.now c.in-Neg.place c.in-Neg.arg) c.requires)) in
+    rw c.get.ensures (can_first _ (subst (λ p. CanRun p c.args.a.now (g.W.Words.store c.args.w.now)) (ap (number_execution c.args.m.now) c.in-Neg.is ∙ neg_is c.args.m.now c.in-Neg.place c.in-Neg.arg) c.requires)) in
     (search (rules, code_lemmas), (search rules, can))
 
 pub number-returns-in_err-n-in-Neg : goal.number-returns-in_err-n-in-Neg
@@ -66,14 +66,14 @@ pub number-returns-in_ok-n-in-Neg : goal.number-returns-in_ok-n-in-Neg
 number-returns-in_ok-n-in-Neg g t c =
     let fits : SFits w64 c.in_ok-n-in-Neg.n = search rules in
     let negation : IsIfFits c.checked_neg.result (neg_ℤ c.in_ok-n-in-Neg.n) =
-        subst (λ v. IsIfFits c.checked_neg.result (neg_ℤ v)) (to_z-of_z w64 c.in_ok-n-in-Neg.n fits) (record { is = c.checked_neg.ensures }) in
+    subst (λ v. IsIfFits c.checked_neg.result (neg_ℤ v)) (to_z-of_z w64 c.in_ok-n-in-Neg.n fits) (record { is = c.checked_neg.ensures }) in
     rw (c.in-Neg.is, neg_is c.args.m.now c.in-Neg.place c.in-Neg.arg, sym c.get.ensures)
     (then (given_value _ c.in_ok-n-in-Neg.ensures) (c.checked.ensures (neg_ℤ c.in_ok-n-in-Neg.n) _ negation))
 
 pub number-number-requires-in-Chain : goal.number-number-requires-in-Chain
 number-number-requires-in-Chain g t c κs within =
     let can : CanRun (number_execution c.args.m.now c.get-in-Chain.result.now) c.args.a.now (g.W.Words.store c.args.w.now) =
-        rw c.get-in-Chain.ensures (can_first _ (subst (λ p. CanRun p c.args.a.now (g.W.Words.store c.args.w.now)) (ap (number_execution c.args.m.now) c.in-Chain.is ∙ chain_is c.args.m.now c.in-Chain.first c.in-Chain.rest) c.requires)) in
+    rw c.get-in-Chain.ensures (can_first _ (subst (λ p. CanRun p c.args.a.now (g.W.Words.store c.args.w.now)) (ap (number_execution c.args.m.now) c.in-Chain.is ∙ chain_is c.args.m.now c.in-Chain.first c.in-Chain.rest) c.requires)) in
     (search (rules, code_lemmas), (search rules, can))
 
 pub number-returns-in_err-n-in-Chain : goal.number-returns-in_err-n-in-Chain
@@ -84,7 +84,7 @@ pub number-chain-requires : goal.number-chain-requires
 number-chain-requires g t c κs within =
     let fits : SFits w64 c.in_ok-n-in-Chain.n = search rules in
     let can : CanRun (number_execution c.args.m.now c.get-in-Chain.result.now >>= λ n. number_rest n (map (number_operand c.args.m.now) c.in-Chain.rest)) c.args.a.now (g.W.Words.store c.args.w.now) =
-        rw c.get-in-Chain.ensures (subst (λ p. CanRun p c.args.a.now (g.W.Words.store c.args.w.now)) (ap (number_execution c.args.m.now) c.in-Chain.is ∙ chain_is c.args.m.now c.in-Chain.first c.in-Chain.rest) c.requires) in
+    rw c.get-in-Chain.ensures (subst (λ p. CanRun p c.args.a.now (g.W.Words.store c.args.w.now)) (ap (number_execution c.args.m.now) c.in-Chain.is ∙ chain_is c.args.m.now c.in-Chain.first c.in-Chain.rest) c.requires) in
     (search (rules, code_lemmas), (search rules, rw (to_z-of_z w64 c.in_ok-n-in-Chain.n fits, c.as_slice-in-Chain.ensures) (can_then can (given_value _ c.in_ok-n-in-Chain.ensures))))
 
 pub number-returns-in_ok-n-in-Chain : goal.number-returns-in_ok-n-in-Chain
@@ -117,7 +117,7 @@ chain-returns-in_err-n g t c =
     let here = at_item (λ xs. number_rest (to_z w64 c.loop-link.n-bits) (map (number_operand c.args.m.now) xs)) c.args.rest.now c.loop-link.link-index c.link-item.result c.loop-link-test.true c.link-item.is so_far in
     let k : SFits w64 c.in_ok-k.k = search rules in
     let result : LeadsTo (operator_result c.link-item.result.op c.link-item.result.place (to_z w64 c.loop-link.n-bits) c.in_ok-k.k) c.number.new.a (g.W.Words.store c.number.new.w) (answered (Err (Trapped c.operate.new.a.trap))) c.operate.new.a (g.W.Words.store c.number.new.w) =
-        subst (λ k. LeadsTo (operator_result c.link-item.result.op c.link-item.result.place (to_z w64 c.loop-link.n-bits) k) c.number.new.a (g.W.Words.store c.number.new.w) (answered (Err (Trapped c.operate.new.a.trap))) c.operate.new.a (g.W.Words.store c.number.new.w)) (to_z-of_z w64 c.in_ok-k.k k) (c.in_err-n.ensures (g.W.Words.store c.number.new.w)) in
+    subst (λ k. LeadsTo (operator_result c.link-item.result.op c.link-item.result.place (to_z w64 c.loop-link.n-bits) k) c.number.new.a (g.W.Words.store c.number.new.w) (answered (Err (Trapped c.operate.new.a.trap))) c.operate.new.a (g.W.Words.store c.number.new.w)) (to_z-of_z w64 c.in_ok-k.k k) (c.in_err-n.ensures (g.W.Words.store c.number.new.w)) in
     then here (stop_handed_on _ _ c.from_residual-in_err-n.result c.from_residual-in_err-n.ensures.1 (then (given_value _ c.in_ok-k.ensures) result))
 
 pub chain-loop-link-preserved : goal.chain-loop-link-preserved
@@ -125,6 +125,6 @@ chain-loop-link-preserved g t c =
     let here = at_item (λ xs. number_rest (to_z w64 c.loop-link.n-bits) (map (number_operand c.args.m.now) xs)) c.args.rest.now c.loop-link.link-index c.link-item.result c.loop-link-test.true c.link-item.is c.loop-link.invariant in
     let k : SFits w64 c.in_ok-k.k = search rules in
     let result : LeadsTo (operator_result c.link-item.result.op c.link-item.result.place (to_z w64 c.loop-link.n-bits) c.in_ok-k.k) c.number.new.a (g.W.Words.store c.number.new.w) (pure c.in_ok-n.n) c.operate.new.a (g.W.Words.store c.number.new.w) =
-        subst (λ k. LeadsTo (operator_result c.link-item.result.op c.link-item.result.place (to_z w64 c.loop-link.n-bits) k) c.number.new.a (g.W.Words.store c.number.new.w) (pure c.in_ok-n.n) c.operate.new.a (g.W.Words.store c.number.new.w)) (to_z-of_z w64 c.in_ok-k.k k) (c.in_ok-n.ensures (g.W.Words.store c.number.new.w)) in
+    subst (λ k. LeadsTo (operator_result c.link-item.result.op c.link-item.result.place (to_z w64 c.loop-link.n-bits) k) c.number.new.a (g.W.Words.store c.number.new.w) (pure c.in_ok-n.n) c.operate.new.a (g.W.Words.store c.number.new.w)) (to_z-of_z w64 c.in_ok-k.k k) (c.in_ok-n.ensures (g.W.Words.store c.number.new.w)) in
     let n : SFits w64 c.in_ok-n.n = search rules in
     rw (to_z-of_z w64 c.in_ok-n.n n) (then here (given_value _ (then (given_value _ c.in_ok-k.ensures) result)))

@@ -1,5 +1,3 @@
-use Rattle.std.proofs.Common.{◌≡◌, ◌≢◌, ◌<◌, ℕ, true, ne_eqb}
-use Rattle.liszt_base.specs.MeshLists.{MeshLists}
 use Rattle.code_eval.proofs.FieldLemmas.{point_in_range}
 use Rattle.code_eval.proofs.numbers.built_in.Goals as goal
 

@@ -1,6 +1,4 @@
-use Rattle.std.proofs.Common.{rules, arith, refl, sym, ap, ◌∙◌, subst, ◌≡◌, ◌≢◌, ◌<◌, ◌≤◌, ◌+◌, get_or, pos, None, Some, Ok, Err, map, neg_ℤ, ℕ, length, List, ◌∷◌, drop}
 use Rattle.std.proofs.lemmas.Int.{to_z-of_z}
-use mir.Val.{to_z, of_z, SFits}
 use mir.Syntax.{w64}
 use Rattle.code_eval.specs.Internal.Ranges.{IsIfFits}
 use Rattle.code_eval.proofs.numbers.operate.Goals as goal

@@ -1,9 +1,7 @@
-use Rattle.std.proofs.Common.{rules, arith, refl, sym, ap, ◌∙◌, subst, ◌≡◌, ◌≢◌, ◌<◌, ◌≤◌, ◌+◌, get_or, pos, None, Some, Ok, Err, map, neg_ℤ, ℕ, length, List, ◌∷◌, drop}
-use Rattle.std.proofs.lemmas.Int.{to_z-of_z}
-use mir.Val.{to_z, of_z, SFits}
+use Rattle.std.proofs.Common.{rules}
+use mir.Val.{SFits}
 use mir.Syntax.{w64}
 use Rattle.std.proofs.lemmas.Bool.{lt-ltb, le-ltb}
-use Rattle.code_eval.specs.Meaning.{spot_read, read_value, built_in_read}
 use Rattle.code_eval.proofs.LeadingLemmas.{built_in_given, load_given, number_given}
 use Rattle.code_eval.proofs.OperandLemmas.{built_in_can, can_load}
 use Rattle.code_eval.proofs.numbers.read.Goals as goal

@@ -1,6 +1,6 @@
-use Rattle.std.proofs.Common.{rules, arith, refl, sym, ap, ◌∙◌, subst, ◌≡◌, ◌≢◌, ◌<◌, ◌≤◌, ◌+◌, get_or, pos, None, Some, Ok, Err, map, neg_ℤ, ℕ, length, List, ◌∷◌, drop}
+use Rattle.std.proofs.Common.{rules, sym, ap}
 use Rattle.std.proofs.lemmas.Int.{to_z-of_z}
-use mir.Val.{to_z, of_z, SFits}
+use mir.Val.{SFits}
 use mir.Syntax.{w64}
 use Rattle.std.specs.Prelude.{int_rem}
 use Rattle.code_eval.specs.Executions.{pure}

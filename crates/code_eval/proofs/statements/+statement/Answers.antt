@@ -1,13 +1,12 @@
-use Rattle.std.proofs.Common.{rules, arith, refl, sym, ap, ◌∙◌, subst, ◌≡◌, ◌≢◌, ◌<◌, ◌≤◌, ◌+◌, ◌-◌, suc, get_or, pos, None, Some, Ok, Err, map, ℕ, length, List, ◌∷◌, drop}
+use Rattle.std.proofs.Common.{rules, arith, refl, sym, ap, ◌∙◌, subst, ◌≡◌, ◌-◌, suc, get_or, pos, Some, ◌∷◌}
 use Rattle.std.proofs.lemmas.Int.{to_z-of_z}
 use Rattle.std.proofs.lemmas.Result.{err_from_is_err_and}
-use mir.Val.{to_z, of_z, SFits}
+use mir.Val.{SFits}
 use mir.Syntax.{w64}
-use Rattle.std.specs.Prelude.{Bool, true, false}
 use Rattle.liszt_base.specs.declared.answers.TrapKind.TheVariants.{Spent}
 use Rattle.resolved_code.specs.declared.statements.StatementCode.{the_lemmas as code_lemmas}
-use Rattle.code_eval.specs.Executions.{CanRun, LeadsTo, pure, answered, if_then_else, for_each, loop, trap, with_turns, ◌>>=◌}
-use Rattle.code_eval.specs.Meaning.{assign_field, body_execution, element_execution, number_execution, set_members, statement_execution, truth_execution, visit, visit_members, visit_set}
+use Rattle.code_eval.specs.Executions.{CanRun, pure, if_then_else, trap, ◌>>=◌}
+use Rattle.code_eval.specs.Meaning.{assign_field, body_execution, element_execution, number_execution, statement_execution, truth_execution, visit_set}
 use Rattle.code_eval.proofs.ChainLemmas.{at_item}
 use Rattle.code_eval.proofs.LayerLemmas.{var_is, val_is, assign_local_is, assign_scalar_is, assign_field_is, if_is, while_is, for_is}
 use Rattle.code_eval.proofs.LeadingLemmas.{at_once, changed, inside, then, given_value, stop_handed_on, can_first, can_then}
@@ -84,14 +83,14 @@ run_statement-returns-in_ok-n-in-Scalar g t c =
 pub run_statement-element-x-requires-in-Field : goal.run_statement-element-x-requires-in-Field
 run_statement-element-x-requires-in-Field g t c =
     let can : CanRun (number_execution c.args.m.now c.in-Field.value >>= λ n. element_execution c.args.m.now c.in-Field.target >>= λ x. assign_field c.in-Field.place c.in-Field.field c.in-Field.how n x) c.args.a.now (g.W.Words.store c.args.w.now) =
-        subst (λ p. CanRun p c.args.a.now (g.W.Words.store c.args.w.now)) (ap (statement_execution c.args.m.now) c.in-Field.is ∙ assign_field_is c.args.m.now c.in-Field.place c.in-Field.field c.in-Field.how c.in-Field.target c.in-Field.value) c.requires in
+    subst (λ p. CanRun p c.args.a.now (g.W.Words.store c.args.w.now)) (ap (statement_execution c.args.m.now) c.in-Field.is ∙ assign_field_is c.args.m.now c.in-Field.place c.in-Field.field c.in-Field.how c.in-Field.target c.in-Field.value) c.requires in
     element_can c.args.m.now c.in-Field.target c.as_slice-in-Field.ensures (can_first _ (can_then can (given_value _ c.in_ok-n-in-Field.ensures)))
 
 pub run_statement-write-requires : goal.run_statement-write-requires
 run_statement-write-requires g t c =
     let n : SFits w64 c.in_ok-n-in-Field.n = search rules in
     let can : CanRun (number_execution c.args.m.now c.in-Field.value >>= λ n. element_execution c.args.m.now c.in-Field.target >>= λ x. assign_field c.in-Field.place c.in-Field.field c.in-Field.how n x) c.args.a.now (g.W.Words.store c.args.w.now) =
-        subst (λ p. CanRun p c.args.a.now (g.W.Words.store c.args.w.now)) (ap (statement_execution c.args.m.now) c.in-Field.is ∙ assign_field_is c.args.m.now c.in-Field.place c.in-Field.field c.in-Field.how c.in-Field.target c.in-Field.value) c.requires in
+    subst (λ p. CanRun p c.args.a.now (g.W.Words.store c.args.w.now)) (ap (statement_execution c.args.m.now) c.in-Field.is ∙ assign_field_is c.args.m.now c.in-Field.place c.in-Field.field c.in-Field.how c.in-Field.target c.in-Field.value) c.requires in
     rw (to_z-of_z w64 c.in_ok-n-in-Field.n n) (can_then (can_then can (given_value _ c.in_ok-n-in-Field.ensures)) (given_value _ (element_given c.args.m.now c.in-Field.target c.as_slice-in-Field.ensures c.element-x-in-Field.ensures)))
 
 pub run_statement-returns-in_ok-n-in-Field : goal.run_statement-returns-in_ok-n-in-Field
@@ -111,7 +110,7 @@ run_statement-returns-in_err-is_true-in-If g t c =
 pub run_statement-run_body-requires : goal.run_statement-run_body-requires
 run_statement-run_body-requires g t c κs within =
     let can : CanRun (truth_execution c.args.m.now c.in-If.test >>= λ b. if_then_else b (body_execution c.args.m.now c.in-If.first) (body_execution c.args.m.now c.in-If.second)) c.args.a.now (g.W.Words.store c.args.w.now) =
-        subst (λ p. CanRun p c.args.a.now (g.W.Words.store c.args.w.now)) (ap (statement_execution c.args.m.now) c.in-If.is ∙ if_is c.args.m.now c.in-If.test c.in-If.first c.in-If.second) c.requires in
+    subst (λ p. CanRun p c.args.a.now (g.W.Words.store c.args.w.now)) (ap (statement_execution c.args.m.now) c.in-If.is ∙ if_is c.args.m.now c.in-If.test c.in-If.first c.in-If.second) c.requires in
     let test = rw c.if-is_true.true at c.in_ok-is_true-in-If.ensures in
     (search (rules, code_lemmas), (search rules, rw c.as_slice-then-is_true.ensures (can_then can (given_value _ test))))
 
@@ -123,7 +122,7 @@ run_statement-returns-then-is_true g t c =
 pub run_statement-run_body-requires-else-is_true : goal.run_statement-run_body-requires-else-is_true
 run_statement-run_body-requires-else-is_true g t c κs within =
     let can : CanRun (truth_execution c.args.m.now c.in-If.test >>= λ b. if_then_else b (body_execution c.args.m.now c.in-If.first) (body_execution c.args.m.now c.in-If.second)) c.args.a.now (g.W.Words.store c.args.w.now) =
-        subst (λ p. CanRun p c.args.a.now (g.W.Words.store c.args.w.now)) (ap (statement_execution c.args.m.now) c.in-If.is ∙ if_is c.args.m.now c.in-If.test c.in-If.first c.in-If.second) c.requires in
+    subst (λ p. CanRun p c.args.a.now (g.W.Words.store c.args.w.now)) (ap (statement_execution c.args.m.now) c.in-If.is ∙ if_is c.args.m.now c.in-If.test c.in-If.first c.in-If.second) c.requires in
     let test = rw c.if-is_true.false at c.in_ok-is_true-in-If.ensures in
     (search (rules, code_lemmas), (search rules, rw c.as_slice-else-is_true.ensures (can_then can (given_value _ test))))
 
@@ -147,7 +146,7 @@ run_statement-element-requires g t c = element_can c.args.m.now c.in-For.arg c.a
 pub run_statement-visit-requires : goal.run_statement-visit-requires
 run_statement-visit-requires g t c κs within =
     let can : CanRun (element_execution c.args.m.now c.in-For.arg >>= λ x. visit_set c.args.m.now c.in-For.slot c.in-For.set c.in-For.place (body_execution c.args.m.now c.in-For.body) x) c.args.a.now (g.W.Words.store c.args.w.now) =
-        subst (λ p. CanRun p c.args.a.now (g.W.Words.store c.args.w.now)) (ap (statement_execution c.args.m.now) c.in-For.is ∙ for_is c.args.m.now c.in-For.slot c.in-For.set c.in-For.place c.in-For.arg c.in-For.body) c.requires in
+    subst (λ p. CanRun p c.args.a.now (g.W.Words.store c.args.w.now)) (ap (statement_execution c.args.m.now) c.in-For.is ∙ for_is c.args.m.now c.in-For.slot c.in-For.set c.in-For.place c.in-For.arg c.in-For.body) c.requires in
     let element = c.element.ensures ∙ ap Some c.in-Some.is in
     (search (rules, code_lemmas), (search rules, rw c.as_slice-in-Some.ensures (can_then can (given_value _ (element_given c.args.m.now c.in-For.arg c.as_slice-in-For.ensures element)))))
 

@@ -1,6 +1,6 @@
-use Rattle.std.proofs.Common.{◌≤◌, ℕ, length, map, drop}
+use Rattle.std.proofs.Common.{length, drop}
 use Rattle.liszt_base.specs.declared.answers.TrapKind.TheVariants.{Spent}
-use Rattle.code_eval.specs.Executions.{LeadsTo, for_each, loop, trap}
+use Rattle.code_eval.specs.Executions.{LeadsTo, for_each, trap}
 use Rattle.code_eval.specs.Meaning.{body_execution, truth_execution, set_members, visit, visit_members}
 use Rattle.code_eval.proofs.LoopLemmas.{IsBeforeTest}
 use Rattle.code_eval.proofs.statements.+statement.Given as goal

@@ -1,8 +1,8 @@
-use Rattle.std.proofs.Common.{rules, arith, refl, sym, ap, ◌∙◌, subst, ◌≡◌, ◌≢◌, ◌<◌, ◌≤◌, ◌+◌, get_or, pos, None, Some, Ok, Err, map, neg_ℤ, ℕ, length, List, ◌∷◌, drop}
+use Rattle.std.proofs.Common.{rules, arith, refl}
 use Rattle.std.proofs.lemmas.Int.{to_z-of_z}
-use mir.Val.{to_z, of_z, SFits}
+use mir.Val.{SFits}
 use mir.Syntax.{w64}
-use Rattle.code_eval.proofs.LeadingLemmas.{at_once, changed, store_given, reduction_given}
+use Rattle.code_eval.proofs.LeadingLemmas.{changed, store_given, reduction_given}
 use Rattle.code_eval.proofs.statements.write.Goals as goal
 
 pub returns-in_default : goal.returns-in_default

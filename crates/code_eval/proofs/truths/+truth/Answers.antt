@@ -1,6 +1,6 @@
-use Rattle.std.proofs.Common.{rules, arith, refl, sym, ap, ◌∙◌, subst, ◌≡◌, ◌≢◌, ◌<◌, ◌≤◌, ◌+◌, get_or, pos, None, Some, Ok, Err, map, neg_ℤ, ℕ, length, List, ◌∷◌, drop}
+use Rattle.std.proofs.Common.{rules, refl, sym, ap, ◌∙◌, subst, ◌≡◌, map}
 use Rattle.std.proofs.lemmas.Int.{to_z-of_z}
-use mir.Val.{to_z, of_z, SFits}
+use mir.Val.{SFits}
 use mir.Syntax.{w64}
 use Rattle.resolved_code.specs.declared.expressions.TruthCode.{the_lemmas as code_lemmas}
 use Rattle.std.specs.Prelude.{Bool, true, false, Option, not}
@@ -8,7 +8,7 @@ use Rattle.std.proofs.Math.Bool.{beq}
 use Rattle.liszt_base.specs.declared.elements.Elem.{Elem}
 use Rattle.topo_operators.specs.Operators.{same}
 use Rattle.code_eval.specs.Arithmetic.{holds}
-use Rattle.code_eval.specs.Executions.{CanRun, LeadsTo, pure, if_then_else, ◌>>=◌}
+use Rattle.code_eval.specs.Executions.{CanRun, pure, if_then_else, ◌>>=◌}
 use Rattle.code_eval.specs.Meaning.{element_execution, number_execution, truth_execution, truth_operand, truth_rest, is_as_required}
 use Rattle.code_eval.proofs.ChainLemmas.{at_item}
 use Rattle.code_eval.proofs.LayerLemmas.{valid_is, not_is, truth_chain_is, compare_numbers_is, compare_elements_is}
@@ -39,7 +39,7 @@ truth-returns-in-Valid g t c =
 pub truth-truth-requires : goal.truth-truth-requires
 truth-truth-requires g t c κs within =
     let can : CanRun (truth_execution c.args.m.now c.get.result.now) c.args.a.now (g.W.Words.store c.args.w.now) =
-        rw c.get.ensures (can_first _ (subst (λ p. CanRun p c.args.a.now (g.W.Words.store c.args.w.now)) (ap (truth_execution c.args.m.now) c.in-Not.is ∙ not_is c.args.m.now c.in-Not.arg) c.requires)) in
+    rw c.get.ensures (can_first _ (subst (λ p. CanRun p c.args.a.now (g.W.Words.store c.args.w.now)) (ap (truth_execution c.args.m.now) c.in-Not.is ∙ not_is c.args.m.now c.in-Not.arg) c.requires)) in
     (search (rules, code_lemmas), (search rules, can))
 
 pub truth-returns-in_err-b-in-Not : goal.truth-returns-in_err-b-in-Not
@@ -53,7 +53,7 @@ truth-returns-in_ok-b-in-Not g t c =
 pub truth-truth-requires-in-Chain : goal.truth-truth-requires-in-Chain
 truth-truth-requires-in-Chain g t c κs within =
     let can : CanRun (truth_execution c.args.m.now c.get-in-Chain.result.now) c.args.a.now (g.W.Words.store c.args.w.now) =
-        rw c.get-in-Chain.ensures (can_first _ (subst (λ p. CanRun p c.args.a.now (g.W.Words.store c.args.w.now)) (ap (truth_execution c.args.m.now) c.in-Chain.is ∙ truth_chain_is c.args.m.now c.in-Chain.first c.in-Chain.rest) c.requires)) in
+    rw c.get-in-Chain.ensures (can_first _ (subst (λ p. CanRun p c.args.a.now (g.W.Words.store c.args.w.now)) (ap (truth_execution c.args.m.now) c.in-Chain.is ∙ truth_chain_is c.args.m.now c.in-Chain.first c.in-Chain.rest) c.requires)) in
     (search (rules, code_lemmas), (search rules, can))
 
 pub truth-returns-in_err-b-in-Chain : goal.truth-returns-in_err-b-in-Chain
@@ -63,7 +63,7 @@ truth-returns-in_err-b-in-Chain g t c =
 pub truth-chain-requires : goal.truth-chain-requires
 truth-chain-requires g t c κs within =
     let can : CanRun (truth_execution c.args.m.now c.get-in-Chain.result.now >>= λ b. truth_rest b (map (truth_operand c.args.m.now) c.in-Chain.rest)) c.args.a.now (g.W.Words.store c.args.w.now) =
-        rw c.get-in-Chain.ensures (subst (λ p. CanRun p c.args.a.now (g.W.Words.store c.args.w.now)) (ap (truth_execution c.args.m.now) c.in-Chain.is ∙ truth_chain_is c.args.m.now c.in-Chain.first c.in-Chain.rest) c.requires) in
+    rw c.get-in-Chain.ensures (subst (λ p. CanRun p c.args.a.now (g.W.Words.store c.args.w.now)) (ap (truth_execution c.args.m.now) c.in-Chain.is ∙ truth_chain_is c.args.m.now c.in-Chain.first c.in-Chain.rest) c.requires) in
     (search (rules, code_lemmas), (search rules, rw c.as_slice-in-Chain.ensures (can_then can (given_value _ c.in_ok-b-in-Chain.ensures))))
 
 pub truth-returns-in_ok-b-in-Chain : goal.truth-returns-in_ok-b-in-Chain
@@ -81,7 +81,7 @@ truth-returns-in_err-n-in-CompareNumbers g t c =
 pub truth-number-requires-in-CompareNumbers : goal.truth-number-requires-in-CompareNumbers
 truth-number-requires-in-CompareNumbers g t c =
     let can : CanRun (number_execution c.args.m.now c.in-CompareNumbers.left >>= λ a. number_execution c.args.m.now c.in-CompareNumbers.right >>= λ b. pure (holds c.in-CompareNumbers.rel a b)) c.args.a.now (g.W.Words.store c.args.w.now) =
-        subst (λ p. CanRun p c.args.a.now (g.W.Words.store c.args.w.now)) (ap (truth_execution c.args.m.now) c.in-CompareNumbers.is ∙ compare_numbers_is c.args.m.now c.in-CompareNumbers.rel c.in-CompareNumbers.left c.in-CompareNumbers.right) c.requires in
+    subst (λ p. CanRun p c.args.a.now (g.W.Words.store c.args.w.now)) (ap (truth_execution c.args.m.now) c.in-CompareNumbers.is ∙ compare_numbers_is c.args.m.now c.in-CompareNumbers.rel c.in-CompareNumbers.left c.in-CompareNumbers.right) c.requires in
     can_first _ (can_then can (given_value _ c.in_ok-n-in-CompareNumbers.ensures))
 
 pub truth-returns-in_err-k-in-CompareNumbers : goal.truth-returns-in_err-k-in-CompareNumbers
@@ -105,7 +105,7 @@ truth-element-x-requires g t c = element_can c.args.m.now c.in-CompareElements.l
 pub truth-element-y-requires : goal.truth-element-y-requires
 truth-element-y-requires g t c =
     let can : CanRun (element_execution c.args.m.now c.in-CompareElements.left >>= λ x. element_execution c.args.m.now c.in-CompareElements.right >>= λ y. pure (is_as_required c.in-CompareElements.is_equal (same x y))) c.args.a.now (g.W.Words.store c.args.w.now) =
-        subst (λ p. CanRun p c.args.a.now (g.W.Words.store c.args.w.now)) (ap (truth_execution c.args.m.now) c.in-CompareElements.is ∙ compare_elements_is c.args.m.now c.in-CompareElements.is_equal c.in-CompareElements.left c.in-CompareElements.right) c.requires in
+    subst (λ p. CanRun p c.args.a.now (g.W.Words.store c.args.w.now)) (ap (truth_execution c.args.m.now) c.in-CompareElements.is ∙ compare_elements_is c.args.m.now c.in-CompareElements.is_equal c.in-CompareElements.left c.in-CompareElements.right) c.requires in
     element_can c.args.m.now c.in-CompareElements.right c.as_slice-in-CompareElements-2.ensures
     (can_first _ (can_then can (given_value _ (element_given c.args.m.now c.in-CompareElements.left c.as_slice-in-CompareElements.ensures c.element-x.ensures))))
 
@@ -135,9 +135,14 @@ chain-loop-link-preserved g t c =
     then here (given_value _ c.in_ok-b.ensures)
 
 pub connected-truth-requires : goal.connected-truth-requires
-connected-truth-requires g t c κs within =
-    (search (rules, code_lemmas), (search rules, subst (λ d. CanRun (if_then_else d (pure c.args.b) (truth_execution c.args.m.now c.args.link.now.arg)) c.args.a.now (g.W.Words.store c.args.w.now))
-    (sym c.is_decided.ensures ∙ c.if-is_decided.false) c.requires))
+connected-truth-requires g t c κs within = (
+  search (rules, code_lemmas),
+  (
+    search rules,
+    subst (λ d. CanRun (if_then_else d (pure c.args.b) (truth_execution c.args.m.now c.args.link.now.arg)) c.args.a.now (g.W.Words.store c.args.w.now))
+        (sym c.is_decided.ensures ∙ c.if-is_decided.false) c.requires,
+  ),
+)
 
 pub connected-returns-then-is_decided : goal.connected-returns-then-is_decided
 connected-returns-then-is_decided g t c = rw (sym c.is_decided.ensures ∙ c.if-is_decided.true) (at_once (λ view. refl))
