@@ -25,7 +25,7 @@ KeepsModes c m after =
     × (AllByRecursion (FoldsByTheMode c) m.folds → AllByRecursion (FoldsByTheMode c) after.folds)
     × ((field : ℕ) → ChangesNothing (mode_in c (OfField field)) → field_values after.state field ≡ field_values m.state field)
 
-all_and_one : {A : Type 0} (Holds : A → Type 0) (xs : List A) (x : A) → AllByRecursion Holds xs → Holds x → AllByRecursion Holds (xs ++ x ∷ [])
+pub all_and_one : {A : Type 0} (Holds : A → Type 0) (xs : List A) (x : A) → AllByRecursion Holds xs → Holds x → AllByRecursion Holds (xs ++ x ∷ [])
 all_and_one Holds [] x all h = (h, tt {0})
 all_and_one Holds (y ∷ ys) x all h = (all.0, all_and_one Holds ys x all.1 h)
 

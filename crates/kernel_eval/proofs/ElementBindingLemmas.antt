@@ -16,6 +16,7 @@ use Rattle.kernel_eval.specs.Expressions.{ElementBindings, element_value, with_b
 use Rattle.kernel_eval.specs.Outcomes.{Stop, continue_with, and_then, modify}
 use Rattle.kernel_eval.specs.States.{EvaluationState, value_in, scalar_value, local_bound_to, element_bound_to, after_block, with_element, with_local}
 use Rattle.kernel_eval.specs.Meaning.{Value, NumberValue, TruthValue, ElementValue, element_of, scalar_read, global_read, name_read, read_spot, spot_of, spot_value, meaning, number_in, truth_in, element_in, assign_spot, assign_field, assign_scalar, assign_name, in_block, evaluation_turns, for_each_member, statement_meaning, body_meaning}
+use Rattle.kernel_eval.proofs.ConditionLemmas.{kept_by_expressions}
 use Rattle.kernel_eval.proofs.ElementExpressionLemmas.{IsElementOf, gives_element}
 use Rattle.kernel_eval.proofs.PreservationLemmas.{keeps_body, leads, element_keeps}
 use Rattle.kernel_eval.proofs.ComputationLemmas.{keeps_then}
@@ -35,33 +36,8 @@ abbrev Leaves : ElementBindings → {A : Type 0} → Computes A → Type 0
 Leaves elements computation = KeptBy Any (Bound elements) computation
 
 module _ (elements : ElementBindings) where
-  global_leaves : (global : Option Binding) (m : EvaluationState) → Bound elements m → Meets (λ v. Bound elements) Any (global_read global m).after (global_read global m).answer
-  global_leaves (Some (ScalarName number)) m h = go (scalar_value m.state number) where
-    go : (value : Option ℤ) → Meets (λ v. Bound elements) Any (scalar_read value m).after (scalar_read value m).answer
-    go (Some n) = h
-    go None = tt
-  global_leaves _ m h = tt
-
-  name_leaves : (value : Option ℤ) (x : Option (Option Elem)) (global : Option Binding) (m : EvaluationState) → Bound elements m
-      → Meets (λ v. Bound elements) Any (name_read value x global m).after (name_read value x global m).answer
-  name_leaves (Some n) x global m h = h
-  name_leaves None (Some x) global m h = h
-  name_leaves None None global m h = global_leaves global m h
-
-  read_leaves : (spot : Spot) (value : Option ℤ) (m : EvaluationState) → Bound elements m → Meets (λ v. Bound elements) Any (read_spot spot value m).after (read_spot spot value m).answer
-  read_leaves spot (Some n) m h = h
-  read_leaves spot None m h = tt
-
   expressions_leave : IsTraversedByExpressions (λ a. Unit {0}) (λ A computation. Leaves elements computation)
-  expressions_leave =
-      record {
-        values = λ a. record { meets = λ m h. h };
-        halts = λ stop. record { meets = λ m h. tt };
-        traps = λ kind place. record { meets = λ m h. tt };
-        then_of = λ f g. triple_then f g;
-        name_of = λ name global. record { meets = λ m h. name_leaves (local_bound_to m name) (element_bound_to m name) global m h };
-        read_of = λ mesh spot any. record { meets = λ m h. read_leaves spot (spot_value mesh m.state spot) m h };
-      }
+  expressions_leave = kept_by_expressions (Bound elements) Any (λ m h. tt) (λ a. Unit {0}) (λ spot n m any h. h)
 
   number_leaves : (mesh : MeshLists) (environment : Environment) (e : Expression) → Leaves elements (number_in mesh environment e)
   number_leaves mesh environment e = over_number expressions_leave mesh environment e (λ a t. tt)

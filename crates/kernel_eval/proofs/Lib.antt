@@ -4,6 +4,7 @@ pub mod ActModeLemmas
 pub mod BindingLemmas
 pub mod CommutationLemmas
 pub mod ComputationLemmas
+pub mod ConditionLemmas
 pub mod ElementBindingLemmas
 pub mod ElementExpressionLemmas
 pub mod HistoryLemmas

@@ -99,20 +99,20 @@ pub record IsTraversed (P : Access → Type 0) (K : (A : Type 0) → Computes A 
       → K Done (loop evaluation_turns (trap Spent place) test body)
 
 module _ {P : Access → Type 0} {K : (A : Type 0) → Computes A → Type 0} (k : IsTraversedByExpressions P K) where
-  choice : {A : Type 0} {this other : Computes A} (b : Bool) → K A this → K A other → K A (if_then_else b this other)
+  pub choice : {A : Type 0} {this other : Computes A} (b : Bool) → K A this → K A other → K A (if_then_else b this other)
   choice true f g = f
   choice false f g = g
 
   -- single steps of expressions
-  number_of_any : (v : Value) → K ℤ (number_of v)
+  pub number_of_any : (v : Value) → K ℤ (number_of v)
   number_of_any (NumberValue n) = k.values n
   number_of_any _ = k.halts NoMeaning
 
-  truth_of_any : (v : Value) → K Bool (truth_of v)
+  pub truth_of_any : (v : Value) → K Bool (truth_of v)
   truth_of_any (TruthValue b) = k.values b
   truth_of_any _ = k.halts NoMeaning
 
-  element_of_any : (v : Value) → K (Option Elem) (element_of v)
+  pub element_of_any : (v : Value) → K (Option Elem) (element_of v)
   element_of_any (ElementValue x) = k.values x
   element_of_any _ = k.halts NoMeaning
 
@@ -122,7 +122,7 @@ module _ {P : Access → Type 0} {K : (A : Type 0) → Computes A → Type 0} (k
   division_checked : (place : Place) (b : ℤ) {by : Computes Value} → K Value by → K Value (checked_division place b by)
   division_checked place b h = choice {this = trap ZeroDivide place} (int_le b (pos 0) && int_le (pos 0) b) (k.traps ZeroDivide place) h
 
-  operator_of : (sign : Sign) (place : Place) (v w : Value) → K Value (operator_result sign place v w)
+  pub operator_of : (sign : Sign) (place : Place) (v w : Value) → K Value (operator_result sign place v w)
   operator_of Or place (TruthValue a) (TruthValue b) = k.values _
   operator_of And place (TruthValue a) (TruthValue b) = k.values _
   operator_of Plus place (NumberValue a) (NumberValue b) = number_checked place (a +ℤ b)
@@ -132,15 +132,15 @@ module _ {P : Access → Type 0} {K : (A : Type 0) → Computes A → Type 0} (k
   operator_of Rest place (NumberValue a) (NumberValue b) = division_checked place b (k.values (NumberValue (int_rem a b)))
   operator_of _ place _ _ = k.halts NoMeaning
 
-  negation_of : (place : Place) (v : Value) → K Value (negation place v)
+  pub negation_of : (place : Place) (v : Value) → K Value (negation place v)
   negation_of place (NumberValue n) = number_checked place (neg_ℤ n)
   negation_of place _ = k.halts NoMeaning
 
-  complement_of : (v : Value) → K Value (complement v)
+  pub complement_of : (v : Value) → K Value (complement v)
   complement_of (TruthValue b) = k.values _
   complement_of _ = k.halts NoMeaning
 
-  comparison_of : (rel : Rel) (v w : Value) → K Value (comparison_result rel v w)
+  pub comparison_of : (rel : Rel) (v w : Value) → K Value (comparison_result rel v w)
   comparison_of rel (NumberValue a) (NumberValue b) = k.values (TruthValue (holds rel a b))
   comparison_of Same (ElementValue x) (ElementValue y) = k.values _
   comparison_of Other (ElementValue x) (ElementValue y) = k.values _
@@ -150,7 +150,7 @@ module _ {P : Access → Type 0} {K : (A : Type 0) → Computes A → Type 0} (k
   id_of place (Some x) = k.values _
   id_of place None = k.traps NilElement place
 
-  call_of : (mesh : MeshLists) (place : Place) (fun : Fun) (x : Option Elem) → K Value (call_result mesh place fun x)
+  pub call_of : (mesh : MeshLists) (place : Place) (fun : Fun) (x : Option Elem) → K Value (call_result mesh place fun x)
   call_of mesh place Head x = k.values (ElementValue (head mesh x))
   call_of mesh place Tail x = k.values (ElementValue (tail mesh x))
   call_of mesh place Inside x = k.values (ElementValue (inside mesh x))
@@ -200,7 +200,7 @@ module _ {P : Access → Type 0} {K : (A : Type 0) → Computes A → Type 0} (k
   pub over_truth : (mesh : MeshLists) (environment : Environment) (e : Expression) → Only P (λ a. Touches environment a e) → K Bool (truth_in mesh environment e)
   over_truth mesh environment e h = k.then_of (over_meaning mesh environment e h) (λ v. truth_of_any v)
 
-  over_element : (mesh : MeshLists) (environment : Environment) (e : Expression) → Only P (λ a. Touches environment a e) → K (Option Elem) (element_in mesh environment e)
+  pub over_element : (mesh : MeshLists) (environment : Environment) (e : Expression) → Only P (λ a. Touches environment a e) → K (Option Elem) (element_in mesh environment e)
   over_element mesh environment e h = k.then_of (over_meaning mesh environment e h) (λ v. element_of_any v)
 
 module _ {P : Access → Type 0} {K : (A : Type 0) → Computes A → Type 0} (k : IsTraversed P K) where

@@ -1,0 +1,4 @@
+//! What each iteration of a comprehension may access, whatever numbers it reads. So far definitions, with worked cases and a law.
+#![tactic(auto)]
+
+pub mod laws;
