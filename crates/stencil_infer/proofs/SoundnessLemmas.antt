@@ -1,5 +1,5 @@
 -- Each act of a body is one of its accesses: one induction over expressions, statements and bodies, from any state with the bindings.
-use Rattle.std.proofs.Common.{◌≡◌, ℕ, Bool, List, [], ◌∷◌, ◌++◌, refl, sym, ap, subst, ◌∙◌, inl, inr}
+use Rattle.std.proofs.Common.{◌≡◌, ℕ, List, [], ◌∷◌, ◌++◌, refl, sym, ap, subst, ◌∙◌, inl}
 use Rattle.std.specs.Prelude.{Option, Some, None, ℤ, Result, Ok, Err}
 use Rattle.std.specs.List.{AllByRecursion, Contains, flat_map}
 use Rattle.liszt_base.specs.MeshLists.{MeshLists}
@@ -7,21 +7,19 @@ use Rattle.liszt_base.specs.declared.accesses.Access.{Access}
 use Rattle.liszt_base.specs.declared.accesses.Mode.TheVariants.{Read}
 use Rattle.liszt_base.specs.declared.accesses.Spot.{Spot}
 use Rattle.liszt_base.specs.declared.answers.Place.{Place}
-use Rattle.liszt_base.specs.declared.answers.TrapKind.TheVariants.{Spent}
 use Rattle.liszt_base.specs.declared.elements.Elem.{Elem}
-use Rattle.liszt_base.specs.declared.elements.SetName.{SetName}
 use Rattle.liszt_tree.specs.declared.tree.How.{How}
 use Rattle.liszt_tree.specs.declared.tree.How.TheVariants.{Set, Fold, Less}
 use Rattle.liszt_tree.specs.Tree.{Expression, Number, Name, Field, Call, Towards, Neg, Not, Chain, Compare, Links, no_links, link}
 use Rattle.liszt_tree.specs.Tree.{Statement, Var, Val, Assign, If, While, For, Body, no_statement, statement}
-use Rattle.mesh_topology.proofs.MemberLemmas.{Member, member_left, member_right, contained_member, member_contained}
+use Rattle.mesh_topology.proofs.MemberLemmas.{Member, member_left, member_right, contained_member}
 use Rattle.topo_operators.specs.Operators.{towards, members}
 use Rattle.phase_types.specs.Environments.{Environment, Binding, FieldName, ScalarName, binding_of, Comprehension}
 use Rattle.phase_types.specs.Walk.{mode_by}
 use Rattle.kernel_eval.specs.Expressions.{ElementBindings, element_value, with_binding, elements_after}
 use Rattle.kernel_eval.specs.Iterations.{iteration_start, acts}
-use Rattle.kernel_eval.specs.Meaning.{Value, NumberValue, TruthValue, ElementValue, number_of, element_of, truth_of, is_decided, operator_result, read_spot, field_read, spot_of, spot_value, meaning, links_meaning, number_in, truth_in, element_in, assign_spot, assign_field, assign_scalar, assign_name, in_block, evaluation_turns, for_each_member, statement_meaning, body_meaning}
-use Rattle.kernel_eval.specs.Outcomes.{Stop, Outcome, pure, continue_with, and_then, modify, if_then_else}
+use Rattle.kernel_eval.specs.Meaning.{Value, NumberValue, TruthValue, ElementValue, element_of, is_decided, read_spot, field_read, spot_of, spot_value, meaning, links_meaning, number_in, truth_in, element_in, assign_spot, assign_field, assign_scalar, assign_name, in_block, evaluation_turns, for_each_member, statement_meaning, body_meaning}
+use Rattle.kernel_eval.specs.Outcomes.{Stop, continue_with, and_then, modify}
 use Rattle.kernel_eval.specs.Preservation.{Preserves}
 use Rattle.kernel_eval.specs.States.{State, Act, EvaluationState, value_in, scalar_value, local_bound_to, with_local, with_element, after_block}
 use Rattle.kernel_eval.proofs.ActModeLemmas.{all_and_one}

@@ -6,9 +6,8 @@ use Rattle.liszt_base.specs.MeshLists.{MeshLists}
 use Rattle.liszt_base.specs.declared.accesses.Access.{Access}
 use Rattle.liszt_base.specs.declared.accesses.Mode.{Mode}
 use Rattle.liszt_base.specs.declared.accesses.Mode.TheVariants.{Read}
-use Rattle.liszt_base.specs.declared.accesses.Spot.{Spot}
 use Rattle.liszt_base.specs.declared.elements.Elem.{Elem}
-use Rattle.liszt_tree.specs.Tree.{Expression, Number, Name, Field, Call, Towards, Neg, Not, Chain, Compare, Links, no_links, link, expression_nodes, target_nodes}
+use Rattle.liszt_tree.specs.Tree.{Expression, Field, Call, Towards, Neg, Not, Chain, Compare, Links, no_links, link, expression_nodes, target_nodes}
 use Rattle.liszt_tree.specs.Tree.{Statement, Var, Val, Assign, If, While, For, Body, no_statement, statement}
 use Rattle.mesh_topology.specs.Elements.{count, numbers}
 use Rattle.topo_operators.specs.Operators.{members, unflipped}
