@@ -7,7 +7,7 @@ use Rattle.liszt_base.specs.declared.accesses.Access.{Access}
 use Rattle.liszt_base.specs.declared.accesses.Mode.{Mode}
 use Rattle.liszt_base.specs.declared.accesses.Mode.TheVariants.{Read}
 use Rattle.liszt_base.specs.declared.elements.Elem.{Elem}
-use Rattle.liszt_tree.specs.Tree.{Expression, Field, Call, Towards, Neg, Not, Chain, Compare, Links, no_links, link, expression_nodes, target_nodes}
+use Rattle.liszt_tree.specs.Tree.{Expression, Field, Call, Towards, Neg, Not, Chain, Compare, Links, no_links, link}
 use Rattle.liszt_tree.specs.Tree.{Statement, Var, Val, Assign, If, While, For, Body, no_statement, statement}
 use Rattle.mesh_topology.specs.Elements.{count, numbers}
 use Rattle.topo_operators.specs.Operators.{members, unflipped}
@@ -91,17 +91,37 @@ abbrev pub LiesIn : List Access → Act → Type 0
 LiesIn accesses act = Contains accesses (record { spot = act.spot; mode = act.mode })
 
 -- VISITS: one for each expression, each statement and each member of a set that the accesses are gathered from. The name of the target
--- of an assignment is no expression.
+-- of an assignment is no expression, and a chain without an operator, which no text has, is its operand.
+abbrev mutual
+  pub expression_visits : Expression → ℕ
+  expression_visits (Field place name arg) = 1 + expression_visits arg
+  expression_visits (Call place fun arg) = 1 + expression_visits arg
+  expression_visits (Towards place arg to) = 1 + expression_visits arg + expression_visits to
+  expression_visits (Neg place arg) = 1 + expression_visits arg
+  expression_visits (Not place arg) = 1 + expression_visits arg
+  expression_visits (Chain level first no_links) = expression_visits first
+  expression_visits (Chain level first (link sign place arg rest)) = 1 + expression_visits first + expression_visits arg + link_visits rest
+  expression_visits (Compare place rel left right) = 1 + expression_visits left + expression_visits right
+  expression_visits _ = 1
+
+  pub link_visits : Links → ℕ
+  link_visits no_links = 0
+  link_visits (link sign place arg rest) = expression_visits arg + link_visits rest
+
+abbrev pub target_visits : Option Expression → ℕ
+target_visits None = 0
+target_visits (Some target) = expression_visits target
+
 abbrev mutual
   pub statement_visits : MeshLists → ElementBindings → Statement → ℕ
-  statement_visits mesh elements (Var place name at init) = 1 + expression_nodes init
-  statement_visits mesh elements (Val place name at init) = 1 + expression_nodes init
-  statement_visits mesh elements (Assign place name target how value) = 1 + expression_nodes value + target_nodes target
+  statement_visits mesh elements (Var place name at init) = 1 + expression_visits init
+  statement_visits mesh elements (Val place name at init) = 1 + expression_visits init
+  statement_visits mesh elements (Assign place name target how value) = 1 + expression_visits value + target_visits target
   statement_visits mesh elements (If place test first second has_else) =
-      1 + expression_nodes test + body_visits mesh elements first + body_visits mesh elements second
-  statement_visits mesh elements (While place test body) = 1 + expression_nodes test + body_visits mesh elements body
+      1 + expression_visits test + body_visits mesh elements first + body_visits mesh elements second
+  statement_visits mesh elements (While place test body) = 1 + expression_visits test + body_visits mesh elements body
   statement_visits mesh elements (For place name at set set_at arg body) =
-      1 + expression_nodes arg
+      1 + expression_visits arg
       + sum_by (λ member. 1 + body_visits mesh ((name, Some member) ∷ elements) body) (members_at (members mesh set) (element_value mesh elements arg))
 
   pub body_visits : MeshLists → ElementBindings → Body → ℕ
