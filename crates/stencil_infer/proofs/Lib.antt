@@ -1,1 +1,3 @@
+pub mod AccessModeLemmas
 pub mod SoundnessLemmas
+pub mod StencilLemmas

@@ -1,11 +1,12 @@
 -- The stencil of an iteration: which spots it may access, whatever numbers it reads. Inferred stencils are the Liszt paper's (DeVito et
 -- al., Supercomputing 2011); what they contain is this project's own.
-use Rattle.std.specs.Prelude.{◌≡◌, ◌<◌, ◌⊎◌, ℕ, ◌+◌, Option, Some, None, List, [], ◌∷◌, ◌++◌}
+use Rattle.std.specs.Prelude.{◌≡◌, ◌<◌, ◌⊎◌, ℕ, ◌+◌, ◌==◌, ◌&&◌, ◌||◌, nat_lt, Bool, if◌then◌else◌, Option, Some, None, List, [], ◌∷◌, ◌++◌}
 use Rattle.std.specs.List.{AllPairs, Contains, flat_map, sum_by}
 use Rattle.liszt_base.specs.MeshLists.{MeshLists}
 use Rattle.liszt_base.specs.declared.accesses.Access.{Access}
 use Rattle.liszt_base.specs.declared.accesses.Mode.{Mode}
 use Rattle.liszt_base.specs.declared.accesses.Mode.TheVariants.{Read}
+use Rattle.liszt_base.specs.declared.accesses.Spot.{Spot}
 use Rattle.liszt_base.specs.declared.elements.Elem.{Elem}
 use Rattle.liszt_tree.specs.Tree.{Expression, Field, Call, Towards, Neg, Not, Chain, Compare, Links, no_links, link}
 use Rattle.liszt_tree.specs.Tree.{Statement, Var, Val, Assign, If, While, For, Body, no_statement, statement}
@@ -15,6 +16,7 @@ use Rattle.phase_types.specs.Environments.{Environment, Binding, FieldName, bind
 use Rattle.phase_types.specs.Walk.{mode_by}
 use Rattle.kernel_eval.specs.Expressions.{ElementBindings, element_value, elements_after}
 use Rattle.kernel_eval.specs.Meaning.{spot_of}
+use Rattle.kernel_eval.specs.Preservation.{is_spot}
 use Rattle.kernel_eval.specs.States.{Act}
 
 -- the access to a field at an element; at nil there is none
@@ -85,6 +87,18 @@ pub record IsStencil (mesh : MeshLists) (c : Comprehension) (id : ℕ) (accesses
   pub ascending : AllPairs Precedes accesses
   pub has_all : (a : Access) → Contains (iteration_accesses mesh c id) a → Contains accesses a
   pub has_no_other : (a : Access) → Contains accesses a → Contains (iteration_accesses mesh c id) a
+
+-- The stencil can be made of the accesses one by one: each is put in its order if its spot is not yet there.
+abbrev pub precedes : Spot → Spot → Bool
+precedes spot other = nat_lt spot.field other.field || ((spot.field == other.field) && nat_lt spot.id other.id)
+
+abbrev pub with_access : Access → List Access → List Access
+with_access a [] = a ∷ []
+with_access a (b ∷ rest) = if precedes a.spot b.spot then a ∷ b ∷ rest else if is_spot a.spot b.spot then b ∷ rest else b ∷ with_access a rest
+
+abbrev pub stencil_of : List Access → List Access
+stencil_of [] = []
+stencil_of (a ∷ rest) = with_access a (stencil_of rest)
 
 -- an act at a spot and in a mode that a list of accesses contains
 abbrev pub LiesIn : List Access → Act → Type 0

@@ -8,7 +8,7 @@ ghost use Rattle.liszt_base.specs.declared.elements.Op.TheVariants.{Add};
 ghost use Rattle.kernel_eval.specs.Iterations.{acts};
 ghost use Rattle.mesh_topology.specs.Internal.Meshes.{one_cell, two_cells};
 ghost use Rattle.stencil_infer.specs.Internal.Cases.{access, accesses_at, along_cycle, at_outside, branches, degree, first_edge_sets, names_again, reads_built_ins, repeats, stops_early, visits_at};
-ghost use Rattle.stencil_infer.specs.Stencils.{IsStencil, iteration_accesses, visits};
+ghost use Rattle.stencil_infer.specs.Stencils.{IsStencil, iteration_accesses, stencil_of, visits};
 
 /// Each edge adds to the degrees of its head and its tail. The stencil lists the lower vertex first.
 fn degrees_of_vertices()
@@ -18,6 +18,11 @@ fn degrees_of_vertices()
         ≡ access 6 3 (Reduce Add) ∷ access 6 2 (Reduce Add) ∷ [] }
     ensures stencil { IsStencil one_cell degree 0
         (access 6 0 (Reduce Add) ∷ access 6 1 (Reduce Add) ∷ []) }
+    ensures ordered { stencil_of (iteration_accesses one_cell degree 5)
+        ≡ access 6 2 (Reduce Add) ∷ access 6 3 (Reduce Add) ∷ [] }
+    ensures once { stencil_of (access 7 1 Read ∷ access 6 2 Write ∷ access 7 0 Read
+        ∷ access 7 1 Read ∷ access 6 2 Write ∷ [])
+        ≡ access 6 2 Write ∷ access 7 0 Read ∷ access 7 1 Read ∷ [] }
     ensures visits { visits one_cell degree ≡ 48 }
 {}
 
