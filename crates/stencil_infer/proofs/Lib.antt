@@ -1,5 +1,6 @@
 pub mod AccessModeLemmas
 pub mod CodeClauseLemmas
 pub mod CodeExpressionLemmas
+pub mod CodeStepLemmas
 pub mod SoundnessLemmas
 pub mod StencilLemmas
