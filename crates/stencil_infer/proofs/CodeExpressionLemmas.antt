@@ -62,12 +62,12 @@ as_result a = Ok a
 pub ok_is : {A : Type 0} (a b : A) → as_result a ≡ as_result b → a ≡ b
 ok_is a b e = cc
 
-is_number : (place : Place) (value : TypedCode) (code : NumberCode) → number_in place value ≡ Ok code → value ≡ typed.Number code
+pub is_number : (place : Place) (value : TypedCode) (code : NumberCode) → number_in place value ≡ Ok code → value ≡ typed.Number code
 is_number place (typed.Number code) other e = ap typed.Number (ok_is code other e)
 is_number place (typed.Truth code) other e = absurd cc
 is_number place (typed.Element kind code) other e = absurd cc
 
-is_truth : (place : Place) (value : TypedCode) (code : TruthCode) → truth_in place value ≡ Ok code → value ≡ typed.Truth code
+pub is_truth : (place : Place) (value : TypedCode) (code : TruthCode) → truth_in place value ≡ Ok code → value ≡ typed.Truth code
 is_truth place (typed.Truth code) other e = ap typed.Truth (ok_is code other e)
 is_truth place (typed.Number code) other e = absurd cc
 is_truth place (typed.Element kind code) other e = absurd cc

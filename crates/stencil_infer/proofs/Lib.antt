@@ -1,6 +1,7 @@
 pub mod AccessModeLemmas
 pub mod CodeClauseLemmas
 pub mod CodeExpressionLemmas
+pub mod CodeStatementLemmas
 pub mod CodeStepLemmas
 pub mod SoundnessLemmas
 pub mod StencilLemmas
