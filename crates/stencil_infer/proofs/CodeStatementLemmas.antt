@@ -68,7 +68,7 @@ same_set : (n : ℕ) (slots : Slots) (x : Option Elem) → SameBelow n slots (sl
 same_set n slots x = record { unchanged = λ slot l. set_other slots n slot x (λ e. omega (arith, l, e)); long = length-set slots n x }
 
 -- NAMES with one more
-in_names : (names : Names) (entry : List ℕ × Resolution) (other : List ℕ) (r : Resolution) → resolution_of (names ++ entry ∷ []) other ≡ Some r
+pub in_names : (names : Names) (entry : List ℕ × Resolution) (other : List ℕ) (r : Resolution) → resolution_of (names ++ entry ∷ []) other ≡ Some r
     → (resolution_of names other ≡ Some r) ⊎ ((bytes_eq other entry.0 ≡ true) × (entry.1 ≡ r))
 in_names [] entry other r e = elim (cases_Bool (bytes_eq other entry.0)) [
   | inl is ↦ inr (is, some_is entry.1 r (rw is at e))
@@ -153,7 +153,7 @@ bound_elsewhere : (name other : List ℕ) (x y : Option Elem) (elements : Elemen
     → lookup (bytes_eq other) ((name, x) ∷ elements) ≡ Some y
 bound_elsewhere name other x y elements is e = rw is e
 
-fits_element : {names : Names} {globals : Environment} {elements : ElementBindings} {slots : Slots} {n : ℕ} (name : List ℕ) (kind : Kind) (x : Option Elem)
+pub fits_element : {names : Names} {globals : Environment} {elements : ElementBindings} {slots : Slots} {n : ℕ} (name : List ℕ) (kind : Kind) (x : Option Elem)
     → resolution_of names name ≡ None → n < length slots → Fits names globals elements slots n
     → Fits (names ++ (name, resolution.Element n kind) ∷ []) globals ((name, x) ∷ elements) (slice_set slots n x) (n + 1)
 fits_element {names = names} {elements = elements} {slots = slots} {n = n} name kind x new l h = record {
@@ -295,7 +295,7 @@ module _ (mesh : MeshLists) (globals : Environment) where
     pub walked : WalkAgrees n slots (statement_accesses mesh globals elements s) (statement_visits mesh elements s) (statement_walk mesh r.0 slots)
     pub fits : Fits r.1 globals (elements_after mesh elements s) (statement_walk mesh r.0 slots).slots (length r.2.elements)
 
-  record BodyAgrees (elements : ElementBindings) (slots : Slots) (n : ℕ) (done : List StatementCode) (body : Body) (r : Block) : Type 0 where
+  pub record BodyAgrees (elements : ElementBindings) (slots : Slots) (n : ℕ) (done : List StatementCode) (body : Body) (r : Block) : Type 0 where
     pub new : List StatementCode
     pub appended : r.0 ≡ done ++ new
     pub walked : WalkAgrees n slots (body_accesses mesh globals elements body) (body_visits mesh elements body) (code_walk mesh new slots)
@@ -313,7 +313,7 @@ module _ (mesh : MeshLists) (globals : Environment) where
   }
 
   -- a block is the whole of its code
-  block_walk : {elements : ElementBindings} {slots : Slots} {n : ℕ} {body : Body} {r : Block} → BodyAgrees elements slots n [] body r
+  pub block_walk : {elements : ElementBindings} {slots : Slots} {n : ℕ} {body : Body} {r : Block} → BodyAgrees elements slots n [] body r
       → WalkAgrees n slots (body_accesses mesh globals elements body) (body_visits mesh elements body) (code_walk mesh r.0 slots)
   block_walk {slots = slots} h = walk_at (ap (λ codes. code_walk mesh codes slots) h.appended) refl refl h.walked
 
@@ -479,7 +479,7 @@ module _ (mesh : MeshLists) (globals : Environment) where
         for_agrees names frame elements slots place name at set set_at arg body r fits x h (omega (arith, count, early))
         (members_agree mesh globals names elements n (length slots) name body x.block.0 each (over_nil (members mesh set) (element_of mesh slots x.origin)) slots fits refl)
 
-    body_agrees : (names : Names) (frame : Frame) (elements : ElementBindings) (slots : Slots) (done : List StatementCode) (body : Body) (r : Block)
+    pub body_agrees : (names : Names) (frame : Frame) (elements : ElementBindings) (slots : Slots) (done : List StatementCode) (body : Body) (r : Block)
         → Fits names globals elements slots (length frame.elements) → length r.1.elements ≤ length slots → resolved_body names frame done body ≡ Ok r
         → BodyAgrees elements slots (length frame.elements) done body r
     body_agrees names frame elements slots done no_statement r fits l e = record {

@@ -1,5 +1,6 @@
 pub mod AccessModeLemmas
 pub mod CodeClauseLemmas
+pub mod CodeComprehensionLemmas
 pub mod CodeExpressionLemmas
 pub mod CodeStatementLemmas
 pub mod CodeStepLemmas
