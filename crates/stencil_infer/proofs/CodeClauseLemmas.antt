@@ -1,5 +1,5 @@
 -- The accesses and the visits of resolved code, by its variants.
-use Rattle.std.proofs.Common.{◌≡◌, ℕ, ◌+◌, List, [], ◌∷◌, ◌++◌, map, Bool, refl, sym, ap, ◌∙◌}
+use Rattle.std.proofs.Common.{◌≡◌, ℕ, ◌+◌, List, [], ◌++◌, map, Bool, sym, ap, ◌∙◌}
 use Rattle.std.specs.Prelude.{Option, ℤ}
 use Rattle.std.specs.List.{slice_set}
 use Rattle.liszt_base.specs.MeshLists.{MeshLists}

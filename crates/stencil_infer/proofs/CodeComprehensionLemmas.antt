@@ -1,16 +1,18 @@
 -- The comprehensions of a checked program are resolved from those of its tree, and have their accesses and visits.
-use Rattle.std.proofs.Common.{◌≡◌, ℕ, zero, suc, ◌+◌, ◌≤◌, ◌<◌, List, [], ◌∷◌, ◌++◌, length, Bool, true, false, refl, sym, ap, subst, ◌∙◌, inl, inr, arith}
+use Rattle.std.proofs.Common.{◌≡◌, ℕ, zero, suc, ◌+◌, ◌≤◌, List, [], ◌∷◌, ◌++◌, length, Bool, true, false, refl, sym, ap, subst, ◌∙◌, inl, inr, arith}
+use Rattle.std.proofs.lemmas.Bool.{cases_Bool}
 use Rattle.std.proofs.lemmas.List.{append-nil, length-append, length-set}
 use Rattle.std.proofs.lemmas.List.Elements.{filter_map-append}
-use Rattle.std.specs.Prelude.{Option, Some, None, slice_get, Result, Ok, Err, if◌then◌else◌}
-use Rattle.std.specs.List.{cons_option, filter_map, slice_set}
+use Rattle.std.specs.Prelude.{Option, Some, None, slice_get, Result, Ok, if◌then◌else◌}
+use Rattle.std.specs.List.{AllByRecursion, cons_option, filter_map, slice_set}
 use Rattle.std.specs.Option.{option_map}
+use Rattle.std.specs.Str.{bytes_eq}
 use Rattle.liszt_base.specs.MeshLists.{MeshLists}
 use Rattle.liszt_base.specs.declared.answers.Place.{Place}
 use Rattle.liszt_base.specs.declared.answers.ProgramFault.{ProgramFault}
 use Rattle.liszt_base.specs.declared.elements.Elem.{Elem}
 use Rattle.liszt_base.specs.declared.elements.Kind.{Kind}
-use Rattle.liszt_tree.specs.Tree.{Expression, Body, MainItem, MainField, MainVar, MainAssign, MainIf, MainWhile, MainFor, Print, Main, no_item, item}
+use Rattle.liszt_tree.specs.Tree.{Body, MainItem, MainField, MainVar, MainAssign, MainIf, MainWhile, MainFor, Print, Main, no_item, item}
 use Rattle.resolved_code.specs.declared.expressions.TruthCode.{TruthCode}
 use Rattle.resolved_code.specs.declared.items.BlockCode.{BlockCode}
 use Rattle.resolved_code.specs.declared.items.ComprehensionCode.{ComprehensionCode}
@@ -22,16 +24,16 @@ use Rattle.phase_types.specs.declared.resolution.Resolution.TheVariants as resol
 use Rattle.phase_types.specs.declared.state.CheckedProgram.{CheckedProgram}
 use Rattle.phase_types.specs.declared.state.MainState.{MainState}
 use Rattle.phase_types.specs.Checked.{built_in_names, first_state, declares_field, declares_scalar, with_comprehension_code, opens_block, closes_block, declared_field, declared_scalar, main_number, main_truth, assigned_scalar, block_code, else_block, resolved_item, resolved_items, checked_program}
-use Rattle.phase_types.specs.Environments.{Environment, FieldName, ScalarName, binding_of, first_declared, Comprehension, Part, field_part, scalar_part, comprehension_part, fields_in, scalars_in, comprehensions_in, Site, start, with_field, with_scalar, comprehension_at, with_comprehension, block_start, after_block, has_else_block, after_item, after_main, comprehensions_of, comprehension_of}
+use Rattle.phase_types.specs.Environments.{Environment, FieldName, ScalarName, first_declared, Comprehension, Part, field_part, scalar_part, comprehension_part, fields_in, scalars_in, comprehensions_in, Site, start, with_field, with_scalar, comprehension_at, with_comprehension, block_start, after_block, has_else_block, after_item, after_main, comprehensions_of, comprehension_of}
 use Rattle.phase_types.specs.Resolve.{◌>>=◌, Names, resolution_of, new_name, declared_element, no_slots, with_element, element_name, accesses_in, resolved_body, resolved_comprehension}
 use Rattle.phase_types.proofs.BodyLemmas.{declared}
-use Rattle.phase_types.proofs.CheckedLemmas.{Follows, program_found}
+use Rattle.phase_types.proofs.CheckedLemmas.{program_found}
 use Rattle.phase_types.proofs.ResolveLemmas.{Agrees, binding_in}
-use Rattle.stencil_infer.specs.Stencils.{bindings_at_start, iteration_accesses, iteration_visits, body_accesses, body_visits}
+use Rattle.stencil_infer.specs.Stencils.{bindings_at_start, iteration_accesses, iteration_visits}
 use Rattle.stencil_infer.specs.Internal.CodeAccesses.{Slots, code_walk}
-use Rattle.stencil_infer.proofs.CodeExpressionLemmas.{bound, ok_is, Represents, KnowsFields}
+use Rattle.stencil_infer.proofs.CodeExpressionLemmas.{bound, ok_is, KnowsFields}
 use Rattle.stencil_infer.proofs.CodeStepLemmas.{Block, element_declared, body_grows}
-use Rattle.stencil_infer.proofs.CodeStatementLemmas.{Fits, IsBelow, WalkAgrees, in_names, fits_element, block_walk, body_agrees}
+use Rattle.stencil_infer.proofs.CodeStatementLemmas.{Fits, WalkAgrees, in_names, fits_element, block_walk, body_agrees}
 
 -- the names of the main program denote no elements
 pub record AreMain (names : Names) : Type 0 where
@@ -69,17 +71,17 @@ walk_of_code mesh made c id slots m long =
     let is = element_declared m.names no_slots c.name m.at c.over step.0 step.1 in
     let names : Names = m.names ++ element_name c.name c.over no_slots ∷ [] in
     let next : (resolved_body names (with_element c.over no_slots) [] c.body >>= λ block. Ok (code_of c.over block)) ≡ Ok made =
-        ap (λ d. resolved_body d.1 d.2 [] c.body >>= λ block. Ok (code_of c.over block)) is.1 ∙ step.2 in
+    ap (λ d. resolved_body d.1 d.2 [] c.body >>= λ block. Ok (code_of c.over block)) is.1 ∙ step.2 in
     let block = bound (resolved_body names (with_element c.over no_slots) [] c.body) (λ block. Ok (code_of c.over block)) made next in
     let whole : code_of c.over block.0 ≡ made = ok_is (code_of c.over block.0) made block.2 in
     let count : length block.0.1.elements ≡ length slots = ap (λ (code : ComprehensionCode). length code.elements) whole ∙ sym long in
     let grown : 1 ≤ length block.0.1.elements = body_grows names (with_element c.over no_slots) [] c.body block.0 block.1 in
     let x : Option Elem = Some (unflipped c.over id) in
     let fits : Fits names c.environment (bindings_at_start c id) (slice_set slots 0 x) 1 =
-        fits_element c.name c.over x is.0 (omega (arith, grown, count)) (fits_at_start m.names c.environment slots m.main m.agrees) in
+    fits_element c.name c.over x is.0 (omega (arith, grown, count)) (fits_at_start m.names c.environment slots m.main m.agrees) in
     let walk : WalkAgrees 1 (slice_set slots 0 x) (iteration_accesses mesh c id) (iteration_visits mesh c id) (code_walk mesh block.0.0 (slice_set slots 0 x)) =
-        block_walk mesh c.environment (body_agrees mesh c.environment names (with_element c.over no_slots) (bindings_at_start c id) (slice_set slots 0 x) [] c.body block.0 fits
-        (omega (arith, count, length-set slots 0 x)) block.1) in
+    block_walk mesh c.environment (body_agrees mesh c.environment names (with_element c.over no_slots) (bindings_at_start c id) (slice_set slots 0 x) [] c.body block.0 fits
+    (omega (arith, count, length-set slots 0 x)) block.1) in
     subst (λ (made : ComprehensionCode). IsWalk mesh made c id (slice_set slots 0 x)) whole (record { accesses = walk.accesses_are; visits = walk.visits_are })
 
 -- THE MAIN PROGRAM so far
@@ -247,12 +249,12 @@ mutual
       let then_site : Site = after_block site (after_main (block_start site) first) in
       let follows : Holds then_state then_site = closed state items.0.1 site (after_main (block_start site) first) h (items_hold (opened state site h) [] first items.0 items.1) in
       let other = bound (else_block (has_else_block second has_else) then_state (resolved_items (opens_block then_state) [] second))
-          (λ other. Ok (code.If condition.0 (block_code state items.0.0) other.0, other.1)) r items.2 in
+      (λ other. Ok (code.If condition.0 (block_code state items.0.0) other.0, other.1)) r items.2 in
       subst (HoldsAfter (else_at then_site second has_else)) (ok_is (code.If condition.0 (block_code state items.0.0) other.0.0, other.0.1) r other.2)
       (else_holds follows second has_else (λ r e. items_hold (opened then_state then_site follows) [] second r e) other.0 other.1)
   item_holds {state = state} {site = site} h (MainWhile place test body) r e =
       let condition = bound (main_truth state.names test)
-          (λ condition. resolved_items (opens_block state) [] body >>= λ items. Ok (code.While place condition (block_code state items.0), closes_block state items.1)) r e in
+      (λ condition. resolved_items (opens_block state) [] body >>= λ items. Ok (code.While place condition (block_code state items.0), closes_block state items.1)) r e in
       let items = bound (resolved_items (opens_block state) [] body) (λ items. Ok (code.While place condition.0 (block_code state items.0), closes_block state items.1)) r condition.2 in
       subst (HoldsAfter (after_block site (after_main (block_start site) body))) (ok_is (code.While place condition.0 (block_code state items.0.0), closes_block state items.0.1) r items.2)
       (closed state items.0.1 site (after_main (block_start site) body) h (items_hold (opened state site h) [] body items.0 items.1))
@@ -270,3 +272,61 @@ mutual
   items_hold {state = state} {site = site} h done (item i rest) r e =
       let next = bound (resolved_item state i) (λ next. resolved_items next.1 (done ++ next.0 ∷ []) rest) r e in
       items_hold (item_holds h i next.0 next.1) (done ++ next.0.0 ∷ []) rest r next.2
+
+-- THE START: the built-in names are those of fields
+abbrev IsField : Resolution → Type 0
+IsField (resolution.Field field kind) = Unit {0}
+IsField _ = ⊥
+
+all_fields : (names : Names) → AllByRecursion (λ (entry : List ℕ × Resolution). IsField entry.1) names → (name : List ℕ) (r : Resolution) → resolution_of names name ≡ Some r → IsField r
+all_fields [] all name r e = absurd (none_is r e) where
+  none_is : (r : Resolution) → None ≡ Some r → ⊥
+  none_is r e = cc
+all_fields (entry ∷ names) all name r e = elim (cases_Bool (bytes_eq name entry.0)) [
+  | inl is ↦ subst IsField (some_is entry.1 r (rw is at e)) all.0
+  | inr is ↦ all_fields names all.1 name r (rw is at e)
+] where
+  some_is : (a b : Resolution) → Some a ≡ Some b → a ≡ b
+  some_is a b e = cc
+
+start_holds : Holds first_state start
+start_holds = record {
+  main = record { no_elements = λ name slot kind is. all_fields built_in_names (tt, (tt, (tt, (tt, (tt, tt))))) name (resolution.Element slot kind) is };
+  agrees = (program_found no_item).same.1.agrees;
+  fields = refl;
+  scalars = refl;
+  comprehensions = tt;
+}
+
+pub comprehensions_made : (program : Main) (checked : CheckedProgram) → checked_program program ≡ Ok checked → AreMade checked.comprehensions (comprehensions_of program)
+comprehensions_made program checked e =
+    let whole = bound (resolved_items first_state [] program) as_checked checked e in
+    subst (λ (checked : CheckedProgram). AreMade checked.comprehensions (comprehensions_of program)) (ok_is (checked_of whole.0) checked whole.2)
+    (items_hold start_holds [] program whole.0 whole.1).comprehensions where
+      checked_of : Items → CheckedProgram
+      checked_of whole = record {
+        fields = whole.1.fields;
+        scalars = whole.1.scalars;
+        scopes = whole.1.scopes;
+        comprehensions = whole.1.comprehensions;
+        items = whole.0;
+      }
+
+      as_checked : Items → Result CheckedProgram ProgramFault
+      as_checked whole = Ok (checked_of whole)
+
+made_at : (codes : List ComprehensionCode) (comprehensions : List Comprehension) → AreMade codes comprehensions → (k : ℕ) (made : ComprehensionCode) (c : Comprehension)
+    → slice_get codes k ≡ Some made → slice_get comprehensions k ≡ Some c → IsMade made c
+made_at (x ∷ codes) (y ∷ comprehensions) h zero made c e f = subst (IsMade made) (some_is y c f) (subst (λ made. IsMade made y) (some_is x made e) h.0) where
+  some_is : {A : Type 0} (a b : A) → Some a ≡ Some b → a ≡ b
+  some_is a b e = cc
+made_at (x ∷ codes) (y ∷ comprehensions) h (suc k) made c e f = made_at codes comprehensions h.1 k made c e f
+made_at [] [] h k made c e f = absurd cc
+made_at [] (y ∷ comprehensions) h k made c e f = absurd h
+made_at (x ∷ codes) [] h k made c e f = absurd h
+
+pub checked_walk : (program : Main) (checked : CheckedProgram) (k : ℕ) (made : ComprehensionCode) (c : Comprehension) → checked_program program ≡ Ok checked
+    → slice_get checked.comprehensions k ≡ Some made → comprehension_of program k ≡ Some c → (mesh : MeshLists) (id : ℕ) (slots : Slots)
+    → length slots ≡ length made.elements → IsWalk mesh made c id (slice_set slots 0 (Some (unflipped c.over id)))
+checked_walk program checked k made c is e f mesh id slots long =
+    walk_of_code mesh made c id slots (made_at checked.comprehensions (comprehensions_of program) (comprehensions_made program checked is) k made c e f) long

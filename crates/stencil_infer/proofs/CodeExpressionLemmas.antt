@@ -1,7 +1,7 @@
 -- A resolved expression has the element, the accesses and the visits of its tree.
 use Rattle.std.proofs.Common.{◌≡◌, ℕ, ◌+◌, List, [], ◌∷◌, ◌++◌, map, Bool, true, false, refl, sym, ap, subst, ◌∙◌, arith}
 use Rattle.std.proofs.lemmas.List.{append-nil, append_assoc}
-use Rattle.std.specs.Prelude.{Option, Some, None, ℤ, Result, Ok, Err, if◌then◌else◌, ◌&&◌}
+use Rattle.std.specs.Prelude.{Option, Some, None, Result, Ok, Err, if◌then◌else◌, ◌&&◌}
 use Rattle.std.specs.Option.{option_and_then, option_map}
 use Rattle.std.specs.Str.{bytes_eq}
 use Rattle.liszt_base.specs.Kinds.{is_kind}
@@ -20,7 +20,6 @@ use Rattle.liszt_tree.specs.declared.tree.Fun.TheVariants.{Head, Tail, Inside, O
 use Rattle.liszt_tree.specs.declared.tree.Level.{Level}
 use Rattle.liszt_tree.specs.declared.tree.Rel.{Rel}
 use Rattle.liszt_tree.specs.declared.tree.Sign.{Sign}
-use Rattle.liszt_tree.specs.declared.tree.Sign.TheVariants as sign
 use Rattle.liszt_tree.specs.Tree.{Expression, Number, Name, Field, Call, Towards, Neg, Not, Chain, Compare, Links, no_links, link}
 use Rattle.resolved_code.specs.declared.expressions.Arithmetic.{Arithmetic}
 use Rattle.resolved_code.specs.declared.expressions.Connective.{Connective}
@@ -42,9 +41,9 @@ use Rattle.phase_types.specs.declared.resolution.Resolution.TheVariants as resol
 use Rattle.phase_types.specs.declared.resolution.TypedCode.{TypedCode}
 use Rattle.phase_types.specs.declared.resolution.TypedCode.TheVariants as typed
 use Rattle.phase_types.specs.Environments.{Environment, FieldName, binding_of, lookup}
-use Rattle.phase_types.specs.Resolve.{◌>>=◌, fails, Names, Accesses, resolution_of, with_access, resolved_name, named_field, number_in, truth_in, element_in, element_of_kind, call_code, called_code, towards_code, is_equality, comparison_code, negated, inverted, arithmetic_of, connective_of, number_link, truth_link, first_of_chain, extended_chain, whole_chain, resolved_expression, resolved_links, resolved_number, resolved_truth}
+use Rattle.phase_types.specs.Resolve.{◌>>=◌, fails, Names, Accesses, resolution_of, with_access, resolved_name, named_field, number_in, truth_in, element_of_kind, call_code, called_code, towards_code, is_equality, comparison_code, negated, inverted, arithmetic_of, connective_of, number_link, truth_link, first_of_chain, extended_chain, whole_chain, resolved_expression, resolved_links}
 use Rattle.phase_types.specs.Types.{are_towards_kinds, is_sameness}
-use Rattle.phase_types.specs.Walk.{OfField, OfScalar, place_of}
+use Rattle.phase_types.specs.Walk.{OfField, OfScalar}
 use Rattle.kernel_eval.specs.Expressions.{ElementBindings, called_element, element_value}
 use Rattle.stencil_infer.specs.Stencils.{access_at, accesses_of, link_accesses, expression_visits, link_visits}
 use Rattle.stencil_infer.specs.Internal.CodeAccesses.{Slots, in_slot, called, element_of, element_visits, at_element, joined, total, number_accesses, number_link_accesses, number_visits, visits_of_number_link, truth_accesses, truth_link_accesses, truth_visits, visits_of_truth_link}
@@ -147,7 +146,7 @@ module _ (mesh : MeshLists) (globals : Environment) (elements : ElementBindings)
     both : IsCodeOf (Towards place arg to) (typed.Element kind (element.Towards code code'))
     both = (
       ap (option_and_then (λ x. option_map (towards mesh x) (element_value mesh elements to))) h.0 ∙ ap (option_map (towards mesh (element_of mesh slots code))) g.0
-      ∙ sym (ap Some (element_towards mesh slots code code')),
+          ∙ sym (ap Some (element_towards mesh slots code code')),
       ap (λ accesses. accesses ++ accesses_of mesh globals elements to) h.1 ∙ g.1,
       ap (λ n. 1 + n + expression_visits to) h.2 ∙ ap (λ n. 1 + element_visits code + n) g.2 ∙ sym (visits_element_towards code code'),
     )
@@ -181,7 +180,7 @@ module _ (mesh : MeshLists) (globals : Environment) (elements : ElementBindings)
   comparison_agrees place rel left right (typed.Number code) (typed.Number code') test h g e =
       subst (IsCodeOf (Compare place rel left right)) (ok_is _ test e) (
         ap (λ accesses. accesses ++ accesses_of mesh globals elements right) h.0 ∙ ap (λ accesses. number_accesses mesh slots code ++ accesses) g.0
-        ∙ sym (truth_comparenumbers mesh slots rel code code'),
+            ∙ sym (truth_comparenumbers mesh slots rel code code'),
         ap (λ n. 1 + n + expression_visits right) h.1 ∙ ap (λ n. 1 + number_visits code + n) g.1 ∙ sym (visits_truth_comparenumbers rel code code'),
       )
   comparison_agrees place rel left right (typed.Element kind code) (typed.Element kind' code') test h g e = go (is_sameness rel && is_kind kind kind') e where
@@ -242,8 +241,8 @@ module _ (mesh : MeshLists) (globals : Environment) (elements : ElementBindings)
       → ChainAgrees (a ++ number_accesses mesh slots l.arg) (n + number_visits l.arg) (chain.Numbers first (rest ++ l ∷ []))
   numbers_extended a n first rest l h = (
     ap (λ a. a ++ number_accesses mesh slots l.arg) h.0 ∙ append_assoc (number_accesses mesh slots first) _ (number_accesses mesh slots l.arg)
-    ∙ ap (λ more. number_accesses mesh slots first ++ (joined (map (number_link_accesses mesh slots) rest) ++ more)) (sym (number_link_is mesh slots l))
-    ∙ ap (λ more. number_accesses mesh slots first ++ more) (sym (joined_more (number_link_accesses mesh slots) rest l)),
+        ∙ ap (λ more. number_accesses mesh slots first ++ (joined (map (number_link_accesses mesh slots) rest) ++ more)) (sym (number_link_is mesh slots l))
+        ∙ ap (λ more. number_accesses mesh slots first ++ more) (sym (joined_more (number_link_accesses mesh slots) rest l)),
     omega (arith, h.1, total_more visits_of_number_link rest l, visits_number_link_is l),
   )
 
@@ -251,8 +250,8 @@ module _ (mesh : MeshLists) (globals : Environment) (elements : ElementBindings)
       → ChainAgrees (a ++ truth_accesses mesh slots l.arg) (n + truth_visits l.arg) (chain.Truths first (rest ++ l ∷ []))
   truths_extended a n first rest l h = (
     ap (λ a. a ++ truth_accesses mesh slots l.arg) h.0 ∙ append_assoc (truth_accesses mesh slots first) _ (truth_accesses mesh slots l.arg)
-    ∙ ap (λ more. truth_accesses mesh slots first ++ (joined (map (truth_link_accesses mesh slots) rest) ++ more)) (sym (truth_link_is mesh slots l))
-    ∙ ap (λ more. truth_accesses mesh slots first ++ more) (sym (joined_more (truth_link_accesses mesh slots) rest l)),
+        ∙ ap (λ more. truth_accesses mesh slots first ++ (joined (map (truth_link_accesses mesh slots) rest) ++ more)) (sym (truth_link_is mesh slots l))
+        ∙ ap (λ more. truth_accesses mesh slots first ++ more) (sym (joined_more (truth_link_accesses mesh slots) rest l)),
     omega (arith, h.1, total_more visits_of_truth_link rest l, visits_truth_link_is l),
   )
 
@@ -378,8 +377,8 @@ module _ (mesh : MeshLists) (globals : Environment) (elements : ElementBindings)
         let later = bound (with_access accesses (OfField field) Read place) (with_read place field target) r e in
         subst (λ (r : TypedCode × Accesses). IsCodeOf (Field place name arg) r.0) (ok_is (typed.Number (number.Field place field target), later.0) r later.2) (
           ap (λ accesses. accesses ++ access_at Read (binding_of globals name) (element_value mesh elements arg)) h.1
-          ∙ ap (λ global. access_at Read global (element_value mesh elements arg)) is ∙ ap (access_at Read (Some (FieldName field kind))) h.0
-          ∙ read_is Read field kind (element_of mesh slots target) ∙ sym (number_field mesh slots place field target),
+              ∙ ap (λ global. access_at Read global (element_value mesh elements arg)) is ∙ ap (access_at Read (Some (FieldName field kind))) h.0
+              ∙ read_is Read field kind (element_of mesh slots target) ∙ sym (number_field mesh slots place field target),
           ap (λ n. 1 + n) h.2 ∙ sym (visits_number_field place field target),
         )
 
@@ -412,7 +411,7 @@ module _ (mesh : MeshLists) (globals : Environment) (elements : ElementBindings)
           (called_code_agrees place fun arg operand.0.0 call.0 (expression_agrees arg accesses operand.0 operand.1) call.1)
       expression_agrees (Towards place arg to) accesses r e =
           let first = bound (resolved_expression names accesses arg)
-              (λ first. resolved_expression names first.1 to >>= λ second. towards_code place first.0 second.0 >>= λ call. Ok (call, second.1)) r e in
+          (λ first. resolved_expression names first.1 to >>= λ second. towards_code place first.0 second.0 >>= λ call. Ok (call, second.1)) r e in
           let second = bound (resolved_expression names first.0.1 to) (λ second. towards_code place first.0.0 second.0 >>= λ call. Ok (call, second.1)) r first.2 in
           let call = bound (towards_code place first.0.0 second.0.0) (λ call. Ok (call, second.0.1)) r second.2 in
           subst (λ (r : TypedCode × Accesses). IsCodeOf (Towards place arg to) r.0) (ok_is (call.0, second.0.1) r call.2)
@@ -437,7 +436,7 @@ module _ (mesh : MeshLists) (globals : Environment) (elements : ElementBindings)
       expression_agrees (Chain level first (link sign place arg rest)) accesses r e =
           let operand = bound (resolved_expression names accesses first) (λ operand. resolved_links names operand.1 (first_of_chain operand.0) (link sign place arg rest)) r e in
           let other = bound (resolved_expression names operand.0.1 arg)
-              (λ other. extended_chain place sign (first_of_chain operand.0.0) other.0 >>= λ next. resolved_links names other.1 next rest) r operand.2 in
+          (λ other. extended_chain place sign (first_of_chain operand.0.0) other.0 >>= λ next. resolved_links names other.1 next rest) r operand.2 in
           let next = bound (extended_chain place sign (first_of_chain operand.0.0) other.0.0) (λ next. resolved_links names other.0.1 next rest) r other.2 in
           let h : IsCodeOf first operand.0.0 = expression_agrees first accesses operand.0 operand.1 in
           let g : IsCodeOf arg other.0.0 = expression_agrees arg operand.0.1 other.0 other.1 in
@@ -446,7 +445,7 @@ module _ (mesh : MeshLists) (globals : Environment) (elements : ElementBindings)
           (λ a n h long. links_agree rest next.0 other.0.1 r a n h long next.2)
       expression_agrees (Compare place rel left right) accesses r e =
           let first = bound (resolved_expression names accesses left)
-              (λ first. resolved_expression names first.1 right >>= λ second. comparison_code place rel first.0 second.0 >>= λ test. Ok (test, second.1)) r e in
+          (λ first. resolved_expression names first.1 right >>= λ second. comparison_code place rel first.0 second.0 >>= λ test. Ok (test, second.1)) r e in
           let second = bound (resolved_expression names first.0.1 right) (λ second. comparison_code place rel first.0.0 second.0 >>= λ test. Ok (test, second.1)) r first.2 in
           let test = bound (comparison_code place rel first.0.0 second.0.0) (λ test. Ok (test, second.0.1)) r second.2 in
           subst (λ (r : TypedCode × Accesses). IsCodeOf (Compare place rel left right) r.0) (ok_is (test.0, second.0.1) r test.2)

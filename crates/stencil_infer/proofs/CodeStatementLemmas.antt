@@ -1,10 +1,10 @@
 -- Resolved statements have the accesses and the visits of their trees.
-use Rattle.std.proofs.Common.{◌≡◌, ◌⊎◌, ℕ, zero, suc, ◌+◌, ◌≤◌, ◌<◌, List, [], ◌∷◌, ◌++◌, length, map, Bool, true, false, refl, sym, ap, subst, ◌∙◌, inl, inr, arith}
+use Rattle.std.proofs.Common.{◌≡◌, ◌⊎◌, ℕ, zero, suc, ◌+◌, ◌≤◌, ◌<◌, List, [], ◌∷◌, ◌++◌, length, Bool, true, false, refl, sym, ap, subst, ◌∙◌, inl, inr, arith}
 use Rattle.std.proofs.lemmas.Bool.{cases_Bool}
 use Rattle.std.proofs.lemmas.List.{append-nil, append_assoc, length-append, length-set}
 use Rattle.std.proofs.lemmas.List.Sums.{sum_by-cons}
 use Rattle.std.proofs.lemmas.Slice.Eq.{bytes_eq-Decides}
-use Rattle.std.specs.Prelude.{Option, Some, None, Result, Ok, Err, if◌then◌else◌}
+use Rattle.std.specs.Prelude.{Option, Some, None, Ok, if◌then◌else◌}
 use Rattle.std.specs.List.{flat_map, slice_set, sum_by}
 use Rattle.std.specs.Str.{bytes_eq}
 use Rattle.liszt_base.specs.Kinds.{has_set, kind_of}
@@ -12,7 +12,6 @@ use Rattle.liszt_base.specs.MeshLists.{MeshLists}
 use Rattle.liszt_base.specs.declared.accesses.Access.{Access}
 use Rattle.liszt_base.specs.declared.accesses.Mode.{Mode}
 use Rattle.liszt_base.specs.declared.answers.Place.{Place}
-use Rattle.liszt_base.specs.declared.answers.ProgramFault.{ProgramFault}
 use Rattle.liszt_base.specs.declared.answers.ProgramWhat.TheVariants.{TypeMismatch}
 use Rattle.liszt_base.specs.declared.elements.Elem.{Elem}
 use Rattle.liszt_base.specs.declared.elements.Kind.{Kind}
@@ -35,10 +34,10 @@ use Rattle.phase_types.specs.Resolve.{◌>>=◌, fails, Names, Accesses, resolut
 use Rattle.phase_types.specs.Walk.{mode_by, place_of}
 use Rattle.kernel_eval.specs.Expressions.{ElementBindings, element_value, with_binding, elements_after}
 use Rattle.stencil_infer.specs.Stencils.{access_at, accesses_of, expression_visits, members_at, statement_accesses, statement_visits, body_accesses, body_visits}
-use Rattle.stencil_infer.specs.Internal.CodeAccesses.{Slots, in_slot, Walk, no_walk, and_then, body_walk, members_walk, over_nil, statement_walk, code_walk, at_element, element_of, element_visits, number_accesses, number_visits, truth_accesses, truth_visits}
+use Rattle.stencil_infer.specs.Internal.CodeAccesses.{Slots, in_slot, Walk, and_then, members_walk, over_nil, statement_walk, code_walk, at_element, element_of, element_visits, number_accesses, number_visits, truth_accesses, truth_visits}
 use Rattle.stencil_infer.proofs.CodeClauseLemmas.{walk_var, walk_val, walk_local, walk_scalar, walk_field, walk_if, walk_while, walk_for}
-use Rattle.stencil_infer.proofs.CodeExpressionLemmas.{bound, ok_is, is_number, is_truth, Represents, KnowsFields, IsCodeOf, IsElementCode, of_kind, expression_agrees}
-use Rattle.stencil_infer.proofs.CodeStepLemmas.{Resolved, Block, VarSteps, var_steps, ValSteps, val_steps, FieldSteps, field_steps, NameSteps, ScalarSteps, LocalSteps, name_steps, IfSteps, if_steps, WhileSteps, while_steps, ForSteps, for_steps, BodySteps, body_steps, statement_grows, body_grows}
+use Rattle.stencil_infer.proofs.CodeExpressionLemmas.{bound, ok_is, is_number, is_truth, Represents, KnowsFields, IsCodeOf, of_kind, expression_agrees}
+use Rattle.stencil_infer.proofs.CodeStepLemmas.{Resolved, Block, VarSteps, var_steps, ValSteps, val_steps, FieldSteps, field_steps, NameSteps, ScalarSteps, LocalSteps, name_steps, if_steps, while_steps, ForSteps, for_steps, body_steps, statement_grows, body_grows}
 
 -- SLOTS that are set
 set_slot : (slots : Slots) (n : ℕ) (x : Option Elem) → n < length slots → in_slot (slice_set slots n x) n ≡ x
@@ -221,7 +220,7 @@ module _ (mesh : MeshLists) (globals : Environment) {names : Names} {elements : 
       let operand = bound (resolved_expression names accesses e) (λ operand. number_in (place_of e) operand.0 >>= λ value. Ok (value, operand.1)) value is in
       let found = bound (number_in (place_of e) operand.0.0) (λ value. Ok (value, operand.0.1)) value operand.2 in
       let same : operand.0.0 ≡ typed.Number value.0 =
-          is_number (place_of e) operand.0.0 found.0 found.1 ∙ ap (λ (v : NumberCode × Accesses). typed.Number v.0) (ok_is (found.0, operand.0.1) value found.2) in
+      is_number (place_of e) operand.0.0 found.0 found.1 ∙ ap (λ (v : NumberCode × Accesses). typed.Number v.0) (ok_is (found.0, operand.0.1) value found.2) in
       subst (IsCodeOf mesh globals elements slots e) same (agrees e accesses operand.0 operand.1)
 
   truth_agrees : (e : Expression) (accesses : Accesses) (value : TruthCode × Accesses) → resolved_truth names accesses e ≡ Ok value
@@ -230,7 +229,7 @@ module _ (mesh : MeshLists) (globals : Environment) {names : Names} {elements : 
       let operand = bound (resolved_expression names accesses e) (λ operand. truth_in (place_of e) operand.0 >>= λ value. Ok (value, operand.1)) value is in
       let found = bound (truth_in (place_of e) operand.0.0) (λ value. Ok (value, operand.0.1)) value operand.2 in
       let same : operand.0.0 ≡ typed.Truth value.0 =
-          is_truth (place_of e) operand.0.0 found.0 found.1 ∙ ap (λ (v : TruthCode × Accesses). typed.Truth v.0) (ok_is (found.0, operand.0.1) value found.2) in
+      is_truth (place_of e) operand.0.0 found.0 found.1 ∙ ap (λ (v : TruthCode × Accesses). typed.Truth v.0) (ok_is (found.0, operand.0.1) value found.2) in
       subst (IsCodeOf mesh globals elements slots e) same (agrees e accesses operand.0 operand.1)
 
   abbrev IsElement : Expression → ElementCode → Type 0
@@ -246,8 +245,8 @@ module _ (mesh : MeshLists) (globals : Environment) {names : Names} {elements : 
       let operand = bound (resolved_expression names accesses e) (λ operand. element_in (place_of e) operand.0 >>= λ value. Ok (value, operand.1)) value is in
       let found = bound (element_in (place_of e) operand.0.0) (λ value. Ok (value, operand.0.1)) value operand.2 in
       let same : operand.0.0 ≡ typed.Element value.0.0 value.0.1 =
-          is_element (place_of e) operand.0.0 found.0 found.1
-          ∙ ap (λ (v : (Kind × ElementCode) × Accesses). typed.Element v.0.0 v.0.1) (ok_is (found.0, operand.0.1) value found.2) in
+      is_element (place_of e) operand.0.0 found.0 found.1
+      ∙ ap (λ (v : (Kind × ElementCode) × Accesses). typed.Element v.0.0 v.0.1) (ok_is (found.0, operand.0.1) value found.2) in
       subst (IsCodeOf mesh globals elements slots e) same (agrees e accesses operand.0 operand.1)
 
   target_agrees : (kind : Kind) (place : Place) (e : Expression) (accesses : Accesses) (operand : TypedCode × Accesses) (target : ElementCode)
@@ -361,14 +360,14 @@ module _ (mesh : MeshLists) (globals : Environment) where
       let g = number_agrees mesh globals fits value x.later x.new_value x.value_is in
       let h = target_agrees mesh globals fits x.kind place target frame.accesses x.operand x.at_element x.operand_is x.element_is in
       let access : access_at (mode_by how) (binding_of globals name) (element_value mesh elements target) ≡ at_element (mode_by how) x.field (element_of mesh slots x.at_element) =
-          ap (λ global. access_at (mode_by how) global (element_value mesh elements target)) (fits.knows.is_field name x.field x.kind x.name_is)
-          ∙ ap (access_at (mode_by how) (Some (FieldName x.field x.kind))) h.0 ∙ access_is (mode_by how) x.field x.kind (element_of mesh slots x.at_element) in
+      ap (λ global. access_at (mode_by how) global (element_value mesh elements target)) (fits.knows.is_field name x.field x.kind x.name_is)
+      ∙ ap (access_at (mode_by how) (Some (FieldName x.field x.kind))) h.0 ∙ access_is (mode_by how) x.field x.kind (element_of mesh slots x.at_element) in
       let accesses : statement_accesses mesh globals elements (Assign place name (Some target) how value)
-          ≡ number_accesses mesh slots x.new_value.0 ++ at_element (mode_by how) x.field (element_of mesh slots x.at_element) =
-          ap (λ more. (accesses_of mesh globals elements value ++ more) ++ access_at (mode_by how) (binding_of globals name) (element_value mesh elements target)) h.1
-          ∙ ap (λ first. first ++ access_at (mode_by how) (binding_of globals name) (element_value mesh elements target)) (append-nil (accesses_of mesh globals elements value))
-          ∙ ap (λ more. accesses_of mesh globals elements value ++ more) access
-          ∙ ap (λ first. first ++ at_element (mode_by how) x.field (element_of mesh slots x.at_element)) g.0 in
+      ≡ number_accesses mesh slots x.new_value.0 ++ at_element (mode_by how) x.field (element_of mesh slots x.at_element) =
+      ap (λ more. (accesses_of mesh globals elements value ++ more) ++ access_at (mode_by how) (binding_of globals name) (element_value mesh elements target)) h.1
+      ∙ ap (λ first. first ++ access_at (mode_by how) (binding_of globals name) (element_value mesh elements target)) (append-nil (accesses_of mesh globals elements value))
+      ∙ ap (λ more. accesses_of mesh globals elements value ++ more) access
+      ∙ ap (λ first. first ++ at_element (mode_by how) x.field (element_of mesh slots x.at_element)) g.0 in
       agrees_at (code.Field place x.field how x.at_element x.new_value.0, names, with_accesses x.new_value.1 frame) r x.result
       (made _ _ (walk_field mesh slots place x.field how x.at_element x.new_value.0)
       (record { accesses_are = sym accesses; visits_are = omega (arith, g.1, h.2); same = same_itself (length frame.elements) slots }) fits)
@@ -411,14 +410,14 @@ module _ (mesh : MeshLists) (globals : Environment) where
       let visits : Elem → ℕ = λ member. 1 + body_visits mesh ((name, Some member) ∷ elements) body in
       let xs : List Elem = over_nil (members mesh set) (element_of mesh slots x.origin) in
       let same : members_at (members mesh set) (element_value mesh elements arg) ≡ xs =
-          ap (members_at (members mesh set)) h.0 ∙ members_are (members mesh set) (element_of mesh slots x.origin) in
+      ap (members_at (members mesh set)) h.0 ∙ members_are (members mesh set) (element_of mesh slots x.origin) in
       let whole : Resolved = (code.For n set set_at x.origin x.block.0, names, x.block.1) in
       let all = walk_then (record { accesses = []; visits = 1 + element_visits x.origin; slots = slots }) (members_walk n (code_walk mesh x.block.0) xs)
-          (one_walk n slots [] (1 + element_visits x.origin)) w in
+      (one_walk n slots [] (1 + element_visits x.origin)) w in
       let accesses : flat_map each xs ≡ statement_accesses mesh globals elements (For place name at set set_at arg body) =
-          sym (ap (λ first. first ++ flat_map each (members_at (members mesh set) (element_value mesh elements arg))) h.1 ∙ ap (flat_map each) same) in
+      sym (ap (λ first. first ++ flat_map each (members_at (members mesh set) (element_value mesh elements arg))) h.1 ∙ ap (flat_map each) same) in
       let count : 1 + element_visits x.origin + sum_by visits xs ≡ statement_visits mesh elements (For place name at set set_at arg body) =
-          sym (ap (λ m. 1 + m + sum_by visits (members_at (members mesh set) (element_value mesh elements arg))) h.2 ∙ ap (λ xs. 1 + element_visits x.origin + sum_by visits xs) same) in
+      sym (ap (λ m. 1 + m + sum_by visits (members_at (members mesh set) (element_value mesh elements arg))) h.2 ∙ ap (λ xs. 1 + element_visits x.origin + sum_by visits xs) same) in
       agrees_at whole r x.result
       (made whole _ (walk_for mesh slots n set set_at x.origin x.block.0) (walk_at refl accesses count all) (fits_later early all.same fits))
 
@@ -443,9 +442,9 @@ module _ (mesh : MeshLists) (globals : Environment) where
         let f = block_walk (body_agrees names (with_accesses x.condition.1 frame) elements slots [] first x.block fits (omega (arith, later, m)) x.block_is) in
         let tf = walk_then (record { accesses = truth_accesses mesh slots x.condition.0; visits = 1 + truth_visits x.condition.0; slots = slots }) (code_walk mesh x.block.0) t f in
         let g = block_walk (body_agrees names x.block.1 elements (code_walk mesh x.block.0 slots).slots [] second x.other (fits_later early f.same fits)
-            (omega (arith, m, f.same.long)) x.other_is) in
+        (omega (arith, m, f.same.long)) x.other_is) in
         let all = walk_then (and_then (record { accesses = truth_accesses mesh slots x.condition.0; visits = 1 + truth_visits x.condition.0; slots = slots }) (code_walk mesh x.block.0))
-            (code_walk mesh x.other.0) tf (walk_below early g) in
+        (code_walk mesh x.other.0) tf (walk_below early g) in
         agrees_at whole r x.result
         (made whole _ (walk_if mesh slots x.condition.0 x.block.0 x.other.0) all (fits_later (omega (arith, early, later)) all.same fits))
     statement_agrees names frame elements slots (While place test body) r fits l e =
@@ -468,14 +467,14 @@ module _ (mesh : MeshLists) (globals : Environment) where
         let early : length inner.elements ≤ length x.block.1.elements = body_grows inner_names inner [] body x.block x.block_is in
         let h = origin_agrees mesh globals fits set set_at arg frame.accesses x.operand x.origin x.operand_is x.origin_is in
         let each : (member : Elem) (slots' : Slots) → Fits names globals elements slots' n → length slots' ≡ length slots
-            → WalkAgrees (n + 1) (slice_set slots' n (Some member)) (body_accesses mesh globals ((name, Some member) ∷ elements) body) (body_visits mesh ((name, Some member) ∷ elements) body)
-            (code_walk mesh x.block.0 (slice_set slots' n (Some member))) =
-            λ member slots' fits' long.
-            walk_below (omega (arith, count))
-            (block_walk (body_agrees inner_names inner ((name, Some member) ∷ elements) (slice_set slots' n (Some member)) [] body x.block
-            (subst (λ k. Fits inner_names globals ((name, Some member) ∷ elements) (slice_set slots' n (Some member)) k) (sym count)
-            (fits_element name (kind_of set) (Some member) x.new (omega (arith, count, early, m, long)) fits'))
-            (omega (arith, m, long, length-set slots' n (Some member))) x.block_is)) in
+        → WalkAgrees (n + 1) (slice_set slots' n (Some member)) (body_accesses mesh globals ((name, Some member) ∷ elements) body) (body_visits mesh ((name, Some member) ∷ elements) body)
+        (code_walk mesh x.block.0 (slice_set slots' n (Some member))) =
+        λ member slots' fits' long.
+        walk_below (omega (arith, count))
+        (block_walk (body_agrees inner_names inner ((name, Some member) ∷ elements) (slice_set slots' n (Some member)) [] body x.block
+        (subst (λ k. Fits inner_names globals ((name, Some member) ∷ elements) (slice_set slots' n (Some member)) k) (sym count)
+        (fits_element name (kind_of set) (Some member) x.new (omega (arith, count, early, m, long)) fits'))
+        (omega (arith, m, long, length-set slots' n (Some member))) x.block_is)) in
         for_agrees names frame elements slots place name at set set_at arg body r fits x h (omega (arith, count, early))
         (members_agree mesh globals names elements n (length slots) name body x.block.0 each (over_nil (members mesh set) (element_of mesh slots x.origin)) slots fits refl)
 
@@ -493,7 +492,7 @@ module _ (mesh : MeshLists) (globals : Environment) where
         let later : length x.first.2.elements ≤ length r.1.elements = body_grows x.first.1 x.first.2 (done ++ x.first.0 ∷ []) rest r x.rest_is in
         let h = statement_agrees names frame elements slots s x.first fits (omega (arith, later, l)) x.first_is in
         let g = body_agrees x.first.1 x.first.2 (elements_after mesh elements s) (statement_walk mesh x.first.0 slots).slots (done ++ x.first.0 ∷ []) rest r h.fits
-            (omega (arith, l, h.walked.same.long)) x.rest_is in
+        (omega (arith, l, h.walked.same.long)) x.rest_is in
         record {
           new = x.first.0 ∷ g.new;
           appended = g.appended ∙ append_assoc done (x.first.0 ∷ []) g.new;

@@ -1,15 +1,14 @@
 -- The steps by which a statement is resolved, and that a frame only grows.
-use Rattle.std.proofs.Common.{◌≡◌, ℕ, ◌+◌, ◌≤◌, ◌<◌, List, [], ◌∷◌, ◌++◌, length, Bool, true, false, refl, sym, ap, subst, ◌∙◌, arith}
+use Rattle.std.proofs.Common.{◌≡◌, ℕ, ◌+◌, ◌≤◌, List, [], ◌∷◌, ◌++◌, length, Bool, true, false, refl, ap, subst, ◌∙◌, arith}
 use Rattle.std.proofs.lemmas.List.{length-append}
-use Rattle.std.specs.Prelude.{Option, Some, None, Result, Ok, Err, if◌then◌else◌}
-use Rattle.liszt_base.specs.Kinds.{has_set, kind_of}
+use Rattle.std.specs.Prelude.{Option, Some, None, Result, Ok, if◌then◌else◌}
+use Rattle.liszt_base.specs.Kinds.{kind_of}
 use Rattle.liszt_base.specs.declared.answers.Place.{Place}
 use Rattle.liszt_base.specs.declared.answers.ProgramFault.{ProgramFault}
-use Rattle.liszt_base.specs.declared.answers.ProgramWhat.TheVariants.{TypeMismatch, BuiltinWrite}
+use Rattle.liszt_base.specs.declared.answers.ProgramWhat.TheVariants.{BuiltinWrite}
 use Rattle.liszt_base.specs.declared.elements.Kind.{Kind}
 use Rattle.liszt_base.specs.declared.elements.SetName.{SetName}
 use Rattle.liszt_tree.specs.declared.tree.How.{How}
-use Rattle.liszt_tree.specs.declared.tree.How.TheVariants.{Set, Fold, Less}
 use Rattle.liszt_tree.specs.Tree.{Expression, Statement, Var, Val, Assign, If, While, For, Body, no_statement, statement}
 use Rattle.resolved_code.specs.declared.expressions.ElementCode.{ElementCode}
 use Rattle.resolved_code.specs.declared.expressions.NumberCode.{NumberCode}
@@ -20,10 +19,9 @@ use Rattle.phase_types.specs.declared.frame.Frame.{Frame}
 use Rattle.phase_types.specs.declared.resolution.Resolution.{Resolution}
 use Rattle.phase_types.specs.declared.resolution.Resolution.TheVariants as resolution
 use Rattle.phase_types.specs.declared.resolution.TypedCode.{TypedCode}
-use Rattle.phase_types.specs.declared.resolution.TypedCode.TheVariants as typed
 use Rattle.phase_types.specs.Environments.{is_built_in}
-use Rattle.phase_types.specs.Resolve.{◌>>=◌, fails, Names, Accesses, resolution_of, new_name, with_access, number_in, truth_in, element_in, element_of_kind, element_with_set, resolved_expression, resolved_number, resolved_truth, resolved_element, with_accesses, with_number, with_element, number_name, element_name, assigned_field, with_reduction, resolved_assignment, resolved_field_assignment, declared_number, declared_element, resolved_var, resolved_val, resolved_statement, resolved_body}
-use Rattle.phase_types.specs.Walk.{OfField, OfScalar, mode_by, place_of}
+use Rattle.phase_types.specs.Resolve.{◌>>=◌, fails, Names, Accesses, resolution_of, new_name, with_access, element_of_kind, element_with_set, resolved_expression, resolved_number, resolved_truth, resolved_element, with_accesses, with_number, with_element, number_name, element_name, assigned_field, with_reduction, resolved_assignment, resolved_field_assignment, declared_number, declared_element, resolved_var, resolved_val, resolved_statement, resolved_body}
+use Rattle.phase_types.specs.Walk.{OfField, mode_by}
 use Rattle.stencil_infer.proofs.CodeExpressionLemmas.{bound, ok_is}
 
 abbrev pub Resolved : Type 0
@@ -56,7 +54,7 @@ pub var_steps : (names : Names) (frame : Frame) (name : List ℕ) (at : Place) (
     → VarSteps names frame name init r
 var_steps names frame name at init r e =
     let value = bound (resolved_number names frame.accesses init)
-        (λ value. declared_number names (with_accesses value.1 frame) name at >>= λ declared. Ok (code.Var declared.0 value.0, declared.1, declared.2)) r e in
+    (λ value. declared_number names (with_accesses value.1 frame) name at >>= λ declared. Ok (code.Var declared.0 value.0, declared.1, declared.2)) r e in
     let declared = bound (declared_number names (with_accesses value.0.1 frame) name at) (λ declared. Ok (code.Var declared.0 value.0.0, declared.1, declared.2)) r value.2 in
     record {
       value = value.0;
@@ -75,7 +73,7 @@ pub val_steps : (names : Names) (frame : Frame) (name : List ℕ) (at : Place) (
     → ValSteps names frame name init r
 val_steps names frame name at init r e =
     let value = bound (resolved_element names frame.accesses init)
-        (λ value. declared_element names (with_accesses value.1 frame) name at value.0.0 >>= λ declared. Ok (code.Val declared.0 value.0.1, declared.1, declared.2)) r e in
+    (λ value. declared_element names (with_accesses value.1 frame) name at value.0.0 >>= λ declared. Ok (code.Val declared.0 value.0.1, declared.1, declared.2)) r e in
     let declared = bound (declared_element names (with_accesses value.0.1 frame) name at value.0.0.0) (λ declared. Ok (code.Val declared.0 value.0.0.1, declared.1, declared.2)) r value.2 in
     let is = element_declared names (with_accesses value.0.1 frame) name at value.0.0.0 declared.0 declared.1 in
     record {
@@ -168,7 +166,7 @@ assignment_steps names frame place how value (Some (resolution.Field field kind)
 assignment_steps names frame place how value (Some (resolution.Element slot kind)) whole r e is = absurd cc
 assignment_steps names frame place how value (Some (resolution.Scalar scalar)) whole r e is =
     let later = bound (with_reduction frame.accesses scalar how place)
-        (λ later. resolved_number names later value >>= λ operand. Ok (code.Scalar scalar how operand.0, with_accesses operand.1 frame)) whole e in
+    (λ later. resolved_number names later value >>= λ operand. Ok (code.Scalar scalar how operand.0, with_accesses operand.1 frame)) whole e in
     let operand = bound (resolved_number names later.0 value) (λ operand. Ok (code.Scalar scalar how operand.0, with_accesses operand.1 frame)) whole later.2 in
     ScalarSteps scalar later.0 operand.0 operand.1
     (ap (λ (a : StatementCode × Frame). (a.0, names, a.1)) (ok_is (code.Scalar scalar how operand.0.0, with_accesses operand.0.1 frame) whole operand.2) ∙ is)
@@ -278,10 +276,10 @@ for_steps names frame place name at set set_at arg body r e =
     let declared = bound (declared_element names (with_accesses operand.0.1 frame) name at (kind_of set)) (for_with_slot names set set_at body origin.0) r origin.2 in
     let is = element_declared names (with_accesses operand.0.1 frame) name at (kind_of set) declared.0 declared.1 in
     let next : for_with_slot names set set_at body origin.0
-        (length frame.elements, names ++ element_name name (kind_of set) frame ∷ [], with_element (kind_of set) (with_accesses operand.0.1 frame)) ≡ Ok r =
-        ap (for_with_slot names set set_at body origin.0) is.1 ∙ declared.2 in
+    (length frame.elements, names ++ element_name name (kind_of set) frame ∷ [], with_element (kind_of set) (with_accesses operand.0.1 frame)) ≡ Ok r =
+    ap (for_with_slot names set set_at body origin.0) is.1 ∙ declared.2 in
     let block = bound (resolved_body (names ++ element_name name (kind_of set) frame ∷ []) (with_element (kind_of set) (with_accesses operand.0.1 frame)) [] body)
-        (for_with_block names set set_at origin.0 (length frame.elements)) r next in
+    (for_with_block names set set_at origin.0 (length frame.elements)) r next in
     record {
       operand = operand.0;
       operand_is = operand.1;
@@ -338,8 +336,11 @@ mutual
   statement_grows names frame (For place name at set set_at arg body) r e =
       let x = for_steps names frame place name at set set_at arg body r e in
       grown (length frame.elements) _ x.result
-      (omega (arith, more_elements (kind_of set) (with_accesses x.operand.1 frame),
-      body_grows (names ++ element_name name (kind_of set) frame ∷ []) (with_element (kind_of set) (with_accesses x.operand.1 frame)) [] body x.block x.block_is))
+      (omega (
+        arith,
+        more_elements (kind_of set) (with_accesses x.operand.1 frame),
+        body_grows (names ++ element_name name (kind_of set) frame ∷ []) (with_element (kind_of set) (with_accesses x.operand.1 frame)) [] body x.block x.block_is,
+      ))
 
   pub body_grows : (names : Names) (frame : Frame) (done : List StatementCode) (body : Body) (r : Block) → resolved_body names frame done body ≡ Ok r
       → length frame.elements ≤ length r.1.elements

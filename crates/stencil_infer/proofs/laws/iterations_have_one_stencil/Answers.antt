@@ -1,4 +1,3 @@
-use Rattle.stencil_infer.proofs.CodeComprehensionLemmas.{walk_of_code}
 use Rattle.stencil_infer.proofs.StencilLemmas.{has_stencil, same_stencil}
 use Rattle.stencil_infer.proofs.laws.iterations_have_one_stencil.Goals as goal
 
