@@ -18,7 +18,7 @@ use Rattle.phase_types.specs.Typed.{IsReduction, StatementFits, FitsVar, FitsVal
 use Rattle.phase_types.specs.Walk.{OfField, is_subject, AccessAt, Step, TestStep, AccessStep, mode_by, access_step, steps_of, link_steps, with_val, environment_after, scalar_steps, statement_steps, body_steps, access_of, mode_in}
 use Rattle.phase_types.proofs.ModeLemmas.{subjects_are, same_subjects}
 use Rattle.phase_types.proofs.TypeLemmas.{computed}
-use Rattle.kernel_eval.proofs.PreservationLemmas.{Access, TouchesField, TouchesScalar, Touches, LinksTouch, StatementTouches, BodyTouches}
+use Rattle.kernel_eval.proofs.TraversalLemmas.{Access, TouchesField, TouchesScalar, Touches, LinksTouch, StatementTouches, BodyTouches}
 
 -- an access that is one of the steps
 data Seen (a : Access) : List Step → Type 0 where
@@ -41,20 +41,20 @@ both f g (inr t) = right _ g t
 
 -- NAMES: the binding of a name in a body, and its binding `globals` before the body. A field or a scalar is bound in both, and the name of
 -- a local number was no scalar.
-abbrev AgreesAt : Option Binding → Option Binding → Type 0
+abbrev pub AgreesAt : Option Binding → Option Binding → Type 0
 AgreesAt (Some (ElementName kind)) global = Unit {0}
 AgreesAt (Some LocalName) global = (mode : Mode) (a : Access) → TouchesScalar global mode a → ⊥
 AgreesAt here global = global ≡ here
 
-record Agree (globals environment : Environment) : Type 0 where
+pub record Agree (globals environment : Environment) : Type 0 where
   pub agrees : (name : List ℕ) → AgreesAt (binding_of environment name) (binding_of globals name)
 
-agrees_with_itself : (global : Option Binding) → AgreesAt global global
+pub agrees_with_itself : (global : Option Binding) → AgreesAt global global
 agrees_with_itself (Some (ElementName kind)) = tt {0}
 agrees_with_itself (Some LocalName) = λ mode a t. t
 agrees_with_itself _ = refl
 
-agree_at : {globals environment : Environment} {here : Option Binding} → Agree globals environment → (name : List ℕ) → binding_of environment name ≡ here
+pub agree_at : {globals environment : Environment} {here : Option Binding} → Agree globals environment → (name : List ℕ) → binding_of environment name ≡ here
     → AgreesAt here (binding_of globals name)
 agree_at {globals = globals} g name is = subst (λ here. AgreesAt here (binding_of globals name)) is (g.agrees name)
 
@@ -67,10 +67,10 @@ agree_more g name entry h = record {
   ];
 }
 
-agree_element : {globals environment : Environment} → Agree globals environment → (name : List ℕ) (kind : Kind) → Agree globals ((name, ElementName kind) ∷ environment)
+pub agree_element : {globals environment : Environment} → Agree globals environment → (name : List ℕ) (kind : Kind) → Agree globals ((name, ElementName kind) ∷ environment)
 agree_element g name kind = agree_more g name (ElementName kind) (tt {0})
 
-after_environment : {globals environment after_environment : Environment} {s : Statement} → Agree globals environment → StatementFits environment s after_environment
+pub after_environment : {globals environment after_environment : Environment} {s : Statement} → Agree globals environment → StatementFits environment s after_environment
     → Agree globals after_environment × (after_environment ≡ environment_after environment s)
 after_environment g (FitsVar place name at h new) = (agree_more g name LocalName (λ mode a t. rw (agree_at g name new) at t), refl)
 after_environment {environment = environment} g (FitsVal {kind = kind} place name at h new) =

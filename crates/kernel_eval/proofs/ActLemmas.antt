@@ -30,7 +30,7 @@ turns_kept =
       element = λ name x m. omega arith;
       read = λ spot n m any. omega arith;
       spot_set = λ spot how n old m any e. omega arith;
-      scalar_assignment = λ how n scalar old m any. omega (arith, folded_turns how n scalar old m);
+      scalar_assignment = λ how n scalar old m any e. omega (arith, folded_turns how n scalar old m);
       block = λ before m r. r;
       turn = λ n m e. omega (arith, e);
     }
@@ -86,7 +86,7 @@ fields_made =
         fields_are = sym (set_is_act spot how n old m.state.fields)
             ∙ ap (λ value. fields_after_act (record { spot = spot; mode = mode_by how; value = operand how n }) value m.state.fields) (sym e);
       };
-      scalar_assignment = λ how n scalar old m any. folded_acts how n scalar old m;
+      scalar_assignment = λ how n scalar old m any e. folded_acts how n scalar old m;
       block = λ before m r. record { new_acts = r.new_acts; acts_are = r.acts_are; fields_are = r.fields_are };
       turn = λ n m e. no_act m _ refl refl;
     }

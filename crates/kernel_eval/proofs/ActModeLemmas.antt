@@ -16,7 +16,8 @@ use Rattle.kernel_eval.specs.Preservation.{HasTheMode, FoldsByTheMode, ChangesNo
 use Rattle.kernel_eval.specs.Meaning.{assigned_value, with_scalar_fold}
 use Rattle.kernel_eval.specs.States.{Fields, with_value, State, EvaluationState, with_state, with_scalar_value}
 use Rattle.kernel_eval.proofs.AccessLemmas.{touched_in_mode}
-use Rattle.kernel_eval.proofs.PreservationLemmas.{IsFilter, Access, keeps_body}
+use Rattle.kernel_eval.proofs.PreservationLemmas.{IsFilter, keeps_body}
+use Rattle.kernel_eval.proofs.TraversalLemmas.{Access}
 
 abbrev KeepsModes : Comprehension → EvaluationState → EvaluationState → Type 0
 KeepsModes c m after =
@@ -24,7 +25,7 @@ KeepsModes c m after =
     × (AllByRecursion (FoldsByTheMode c) m.folds → AllByRecursion (FoldsByTheMode c) after.folds)
     × ((field : ℕ) → ChangesNothing (mode_in c (OfField field)) → field_values after.state field ≡ field_values m.state field)
 
-all_and_one : {A : Type 0} (Holds : A → Type 0) (xs : List A) (x : A) → AllByRecursion Holds xs → Holds x → AllByRecursion Holds (xs ++ x ∷ [])
+pub all_and_one : {A : Type 0} (Holds : A → Type 0) (xs : List A) (x : A) → AllByRecursion Holds xs → Holds x → AllByRecursion Holds (xs ++ x ∷ [])
 all_and_one Holds [] x all h = (h, tt {0})
 all_and_one Holds (y ∷ ys) x all h = (all.0, all_and_one Holds ys x all.1 h)
 
@@ -64,7 +65,7 @@ modes_kept c =
         λ field none. elsewhere spot (assigned_value how old n) field
             (λ is. assignment_changes how (subst ChangesNothing (ap (λ field. mode_in c (OfField field)) (sym is) ∙ h) none)) m.state.fields,
       );
-      scalar_assignment = reduced c;
+      scalar_assignment = λ how n scalar old m h e. reduced c how n scalar old m h;
       block = λ before m r. r;
       turn = λ n m e. unchanged c m;
     }

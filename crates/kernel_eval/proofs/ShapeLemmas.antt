@@ -15,7 +15,7 @@ use Rattle.phase_types.specs.Environments.{Environment, Binding, FieldName, Scal
 use Rattle.phase_types.specs.Walk.{mode_by}
 use Rattle.kernel_eval.specs.Fits.{EntryFits, StateFits}
 use Rattle.kernel_eval.specs.Meaning.{operand, assigned_value, with_scalar_fold}
-use Rattle.kernel_eval.specs.States.{Fields, updated_entry, with_value, map_update, with_fields, State, with_scalar_value, EvaluationState, local_bound_to, with_local_value, with_act, with_state, after_block}
+use Rattle.kernel_eval.specs.States.{Fields, updated_entry, with_value, map_update, update_first, with_fields, State, with_scalar_value, EvaluationState, local_bound_to, with_local_value, with_act, with_state, after_block}
 use Rattle.kernel_eval.proofs.PreservationLemmas.{IsFilter}
 
 -- THE SHAPE of a finite map: its keys, each with the preserved part of its value
@@ -59,6 +59,13 @@ map_update_shape is_key value entries = changed_shape unit_of _ (λ entry. elim 
   | inr is ↦ rw is refl
 ]) entries
 
+update_first_shape : {K : Type 0} (is_key : K → Bool) (value : ℤ) (entries : List (K × ℤ)) → shape unit_of (update_first is_key value entries) ≡ shape unit_of entries
+update_first_shape is_key value [] = refl
+update_first_shape is_key value (entry ∷ entries) = elim (cases_Bool (is_key entry.0)) [
+  | inl is ↦ rw is refl
+  | inr is ↦ rw is (ap (λ rest. shaped unit_of entry ∷ rest) (update_first_shape is_key value entries))
+]
+
 pub set_shape : (spot : Spot) (value : ℤ) (fields : Fields) → shape length_of (with_value spot value fields) ≡ shape length_of fields
 set_shape spot value fields = changed_shape length_of (updated_entry spot value) (λ entry. elim (cases_Bool (entry.0 == spot.field)) [
   | inl is ↦ rw is (ap (λ n. (entry.0, n)) (length-set entry.1 spot.id value))
@@ -97,7 +104,7 @@ pub same_names : (m after : EvaluationState) → IsLike m.state after.state → 
 same_names m after like e f = record { like = like; locals = ap (shape unit_of) e; elements = f }
 
 pub local_assigned : (name : List ℕ) (n : ℤ) (m : EvaluationState) → HasShape m (with_local_value name n m)
-local_assigned name n m = record { like = like_itself m.state; locals = map_update_shape (bytes_eq name) n m.locals; elements = refl }
+local_assigned name n m = record { like = like_itself m.state; locals = update_first_shape (bytes_eq name) n m.locals; elements = refl }
 
 pub spot_set : (spot : Spot) (how : How) (n old : ℤ) (m : EvaluationState)
     → HasShape m (with_act (record { spot = spot; mode = mode_by how; value = operand how n }) (with_state (with_fields (with_value spot (assigned_value how old n) m.state.fields) m.state) m))
@@ -172,7 +179,7 @@ shapes_kept =
       };
       read = λ spot n m any. no_new_entries m _ (same_names m _ (like_itself m.state) refl refl);
       spot_set = λ spot how n old m any e. no_new_entries m _ (spot_set spot how n old m);
-      scalar_assignment = λ how n scalar old m any. no_new_entries m _ (reduced how n scalar old m);
+      scalar_assignment = λ how n scalar old m any e. no_new_entries m _ (reduced how n scalar old m);
       block = λ before m r. no_new_entries before _ (block_shape_preserved before m r);
       turn = λ n m e. no_new_entries m _ (with_turns n m);
     }

@@ -1,3 +1,4 @@
+pub mod Expressions
 pub mod Fits
 pub mod Internal
 pub mod Iterations

@@ -1,12 +1,14 @@
 -- What computations preserve. This project's own.
-use Rattle.std.specs.Prelude.{◌≡◌, ℕ, ◌≤◌, ◌==◌, ◌++◌, Bool, Option, Some, None, List, [], ◌∷◌, ℤ}
+use Rattle.std.specs.Prelude.{◌≡◌, ℕ, ◌≤◌, ◌==◌, ◌&&◌, ◌++◌, Bool, if◌then◌else◌, Option, Some, None, List, [], ◌∷◌, ℤ}
+use Rattle.std.specs.Option.{option_map}
 use Rattle.liszt_base.specs.Reductions.{fold}
 use Rattle.liszt_base.specs.declared.accesses.Mode.{Mode}
 use Rattle.liszt_base.specs.declared.accesses.Mode.TheVariants.{Read, Write, Reduce}
+use Rattle.liszt_base.specs.declared.accesses.Spot.{Spot}
 use Rattle.phase_types.specs.Environments.{Comprehension, lookup}
 use Rattle.phase_types.specs.Walk.{OfField, OfScalar, mode_in}
 use Rattle.kernel_eval.specs.Outcomes.{Outcome, Computation, Done, ◌>>=◌, ◌>>◌, if_then_else, skip, Turns, take_turn}
-use Rattle.kernel_eval.specs.States.{Fields, value_in, with_value, State, Act, ScalarFold, EvaluationState}
+use Rattle.kernel_eval.specs.States.{map_update, Fields, value_in, with_value, State, Act, ScalarFold, EvaluationState}
 
 -- the state afterwards is in relation R to the state at entry
 pub record Preserves {S A : Type 0} (R : S → S → Type 0) (computation : S → Outcome S A) : Type 0 where
@@ -34,6 +36,34 @@ pub record ActsDetermineFields (m after : EvaluationState) : Type 0 where
   pub acts_are : after.acts ≡ m.acts ++ new_acts
   pub fields_are : after.state.fields ≡ fields_after_acts m.state.fields new_acts
 
+-- THE VALUE AT ONE SPOT AFTER ACTS: those at other spots leave it as it is.
+abbrev pub value_after_act : Mode → ℤ → ℤ → ℤ
+value_after_act Read value old = old
+value_after_act Write value old = value
+value_after_act (Reduce op) value old = fold op old value
+
+abbrev pub is_spot : Spot → Spot → Bool
+is_spot spot other = (spot.field == other.field) && (spot.id == other.id)
+
+abbrev pub value_after_acts : Spot → Option ℤ → List Act → Option ℤ
+value_after_acts spot value [] = value
+value_after_acts spot value (act ∷ rest) =
+    value_after_acts spot (if is_spot spot act.spot then option_map (value_after_act act.mode act.value) value else value) rest
+
+pub record ActsDetermineValues (m after : EvaluationState) : Type 0 where
+  pub new_acts : List Act
+  pub acts_are : after.acts ≡ m.acts ++ new_acts
+  pub values_are : (spot : Spot) → value_in after.state.fields spot ≡ value_after_acts spot (value_in m.state.fields spot) new_acts
+
+-- THE SCALARS AFTER REDUCTIONS, each of which folds the value of its scalar
+abbrev pub scalars_after_fold : ScalarFold → Option ℤ → List (ℕ × ℤ) → List (ℕ × ℤ)
+scalars_after_fold folded None scalars = scalars
+scalars_after_fold folded (Some old) scalars = map_update (λ other. other == folded.scalar) (fold folded.op old folded.value) scalars
+
+abbrev pub scalars_after : List (ℕ × ℤ) → List ScalarFold → List (ℕ × ℤ)
+scalars_after scalars [] = scalars
+scalars_after scalars (folded ∷ rest) = scalars_after (scalars_after_fold folded (lookup (λ other. other == folded.scalar) scalars) scalars) rest
+
 -- THE MODE of an act is the one of its field in the comprehension, that of a reduction the one of its scalar. A subject that is read, or
 -- not accessed, is unchanged.
 abbrev pub HasTheMode : Comprehension → Act → Type 0
@@ -49,6 +79,14 @@ ChangesNothing (Some mode) = ⊥
 
 abbrev pub field_values : State → ℕ → Option (List ℤ)
 field_values s field = lookup (λ number. number == field) s.fields
+
+-- A CHANGE of the state at entry that a computation does not see: the answer is the same, and the state afterwards has the same change.
+pub record Commutes {S A : Type 0} (change : S → S) (computation : S → Outcome S A) : Type 0 where
+  pub commuted : (s : S) → computation (change s) ≡ record { after = change (computation s).after; answer = (computation s).answer }
+
+-- further acts and reductions before those of an evaluation state
+abbrev pub with_earlier : List Act → List ScalarFold → EvaluationState → EvaluationState
+with_earlier acts folds m = record m { acts = acts ++ m.acts; folds = folds ++ m.folds }
 
 -- A LOOP UNFOLDED: its test; if that is true, a turn and the body, and then the loop again
 abbrev pub loop_unfolded : {S : Type 0} → Turns S → Computation S Done → Computation S Bool → Computation S Done → Computation S Done

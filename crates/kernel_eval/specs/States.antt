@@ -9,7 +9,12 @@ use Rattle.liszt_base.specs.declared.elements.Elem.{Elem}
 use Rattle.liszt_base.specs.declared.elements.Op.{Op}
 use Rattle.phase_types.specs.Environments.{lookup}
 
--- a finite map with another value at the keys that pass a test
+-- a finite map with another value at the first key that passes a test; at all of them
+abbrev pub update_first : {K A : Type 0} → (K → Bool) → A → List (K × A) → List (K × A)
+update_first is_key value [] = []
+update_first is_key value (entry ∷ entries) =
+    if is_key entry.0 then (entry.0, value) ∷ entries else entry ∷ update_first is_key value entries
+
 abbrev pub map_update : {K A : Type 0} → (K → Bool) → A → List (K × A) → List (K × A)
 map_update is_key value entries = map (λ entry. if is_key entry.0 then (entry.0, value) else entry) entries
 
@@ -42,6 +47,13 @@ scalar_value s number = lookup (λ other. other == number) s.scalars
 
 abbrev pub with_scalar_value : ℕ → ℤ → State → State
 with_scalar_value number value s = record s { scalars = map_update (λ other. other == number) value s.scalars }
+
+-- THE PARTS of a state that only declarations and the ends of scopes change: its fields, with their numbers of values, and its scalars
+abbrev pub field_lengths : State → List (ℕ × ℕ)
+field_lengths s = map (λ field. (field.0, length field.1)) s.fields
+
+abbrev pub known_scalars : State → List ℕ
+known_scalars s = map (λ scalar. scalar.0) s.scalars
 
 -- AN ACT reads, writes or reduces a spot, with the value that is read, written, or the operand of the reduction.
 pub record Act : Type 0 where
@@ -81,7 +93,7 @@ abbrev pub with_local : List ℕ → ℤ → EvaluationState → EvaluationState
 with_local name value m = record m { locals = (name, value) ∷ m.locals }
 
 abbrev pub with_local_value : List ℕ → ℤ → EvaluationState → EvaluationState
-with_local_value name value m = record m { locals = map_update (bytes_eq name) value m.locals }
+with_local_value name value m = record m { locals = update_first (bytes_eq name) value m.locals }
 
 abbrev pub with_act : Act → EvaluationState → EvaluationState
 with_act act m = record m { acts = m.acts ++ act ∷ [] }

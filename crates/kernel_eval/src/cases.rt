@@ -1,12 +1,21 @@
 //! Worked cases of the definitions, which the checker computes. Each function does nothing; its contract is the case.
 #![allow(dead_code)]
 
-ghost use Rattle.std.specs.Prelude.{◌≡◌, true, false, Ok, pos, neg_ℤ};
+ghost use Rattle.std.specs.Prelude.{◌≡◌, [], ◌∷◌, None, Some, codes, true, false, Ok, pos, neg_ℤ};
+ghost use Rattle.std.specs.Str.{bytes_eq};
+ghost use Rattle.liszt_base.specs.declared.accesses.Mode.TheVariants.{Read, Reduce, Write};
 ghost use Rattle.liszt_base.specs.declared.answers.TrapKind.TheVariants.{Overflow, ZeroDivide};
+ghost use Rattle.liszt_base.specs.declared.elements.Kind.TheVariants.{Edge, Vertex};
 ghost use Rattle.liszt_base.specs.declared.elements.Op.TheVariants.{Add, Min};
+ghost use Rattle.liszt_tree.specs.declared.tree.Fun.TheVariants.{Head, Id, Outside, Tail};
 ghost use Rattle.liszt_tree.specs.declared.tree.How.TheVariants.{Set, Fold, Less};
 ghost use Rattle.liszt_tree.specs.declared.tree.Sign.TheVariants.{Plus, Minus, Times, Over, Rest};
-ghost use Rattle.kernel_eval.specs.Internal.Cases.{binary, both, chained, divides_by_zero, value_of, number_result, greatest_number, operator_place, equality, least_number, negation_of, either, trap_result};
+ghost use Rattle.liszt_tree.specs.Tree.{Towards, nowhere};
+ghost use Rattle.liszt_tree.specs.Trees.{name};
+ghost use Rattle.topo_operators.specs.Operators.{unflipped};
+ghost use Rattle.kernel_eval.specs.Preservation.{scalars_after, value_after_acts};
+ghost use Rattle.kernel_eval.specs.States.{update_first};
+ghost use Rattle.kernel_eval.specs.Internal.Cases.{a_fold, a_spot, an_act, call, element_of, binary, both, chained, divides_by_zero, value_of, number_result, greatest_number, operator_place, equality, least_number, negation_of, either, trap_result};
 ghost use Rattle.kernel_eval.specs.Meaning.{TruthValue, assigned_value};
 
 /// Division rounds towards zero, and the remainder has the sign of the dividend.
@@ -76,4 +85,39 @@ fn assignments()
         ≡ greatest_number }
     ensures minimum { assigned_value (Fold Min) (pos 7) (pos 9) ≡ pos 7 }
     ensures replaces { assigned_value Set (pos 7) (pos 9) ≡ pos 9 }
+{}
+
+/// At one spot a write replaces the value, a reduction folds it, and a read or an act at another spot leaves it. Reductions fold the
+/// scalars that there are.
+fn values_after_acts()
+    ensures value { value_after_acts (a_spot 6 0) (Some (pos 5))
+        (an_act 0 Write (pos 7) ∷ an_act 1 Write (pos 9) ∷ an_act 0 (Reduce Add) (pos 3)
+        ∷ an_act 0 Read (pos 10) ∷ []) ≡ Some (pos 10) }
+    ensures other_field { value_after_acts (a_spot 7 0) (Some (pos 5))
+        (an_act 0 Write (pos 7) ∷ []) ≡ Some (pos 5) }
+    ensures no_value { value_after_acts (a_spot 6 0) None (an_act 0 Write (pos 7) ∷ []) ≡ None }
+    ensures scalars { scalars_after ((0, pos 5) ∷ (1, pos 2) ∷ [])
+        (a_fold 0 Add (pos 3) ∷ a_fold 2 Add (pos 1) ∷ a_fold 1 Min (pos 9) ∷ a_fold 0 Min (pos 4) ∷ [])
+        ≡ (0, pos 4) ∷ (1, pos 2) ∷ [] }
+{}
+
+/// Of two entries with one key the first is updated.
+fn updates()
+    ensures { update_first (bytes_eq (codes "x")) (pos 7)
+        ((codes "y", pos 1) ∷ (codes "x", pos 2) ∷ (codes "x", pos 3) ∷ [])
+        ≡ (codes "y", pos 1) ∷ (codes "x", pos 7) ∷ (codes "x", pos 3) ∷ [] }
+{}
+
+/// Elements of expressions by their names, of which the latest counts: an end, an orientation, nil, and no element.
+fn element_values()
+    ensures latest { element_of (name (codes "e")) ≡ Some (Some (unflipped Edge 0)) }
+    ensures head { element_of (call Head (name (codes "e"))) ≡ Some (Some (unflipped Vertex 1)) }
+    ensures outside { element_of (call Outside (name (codes "f"))) ≡ Some None }
+    ensures towards { element_of (Towards nowhere (name (codes "e"))
+        (call Tail (name (codes "e"))))
+        ≡ Some (Some (record { kind = Edge; id = 0; flipped = true })) }
+    ensures towards_nil { element_of (Towards nowhere (name (codes "e")) (name (codes "n")))
+        ≡ Some None }
+    ensures unknown { element_of (name (codes "x")) ≡ None }
+    ensures number { element_of (call Id (name (codes "e"))) ≡ None }
 {}

@@ -1,4 +1,5 @@
 pub mod IterationLemmas
 pub mod MainPreservationLemmas
+pub mod PathLemmas
 pub mod StateShapeLemmas
 pub mod TypedRunLemmas

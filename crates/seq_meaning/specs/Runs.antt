@@ -15,15 +15,18 @@ use Rattle.kernel_eval.specs.States.{Fields, State, scalar_value, with_scalar_va
 use Rattle.kernel_eval.specs.Meaning.{trap, no_meaning, assigned_value, number_in, truth_in}
 use Rattle.kernel_eval.specs.Iterations.{iteration, end_of}
 
--- A COMPREHENSION: its iterations by ascending id, each from the state after the previous one and with turns of its own, up to the first
--- stop
+-- ITERATIONS of a list of ids, each from the state after the previous one and with turns of its own, up to the first stop; and
+-- A COMPREHENSION: its iterations by ascending id
 abbrev pub after_iteration : MeshLists → Comprehension → ℕ → ℕ → Computation State Done
 after_iteration mesh c turns id s =
     let outcome : Outcome EvaluationState Done = iteration mesh c turns s id in
     record { after = record outcome.after.state { turns = s.turns }; answer = outcome.answer }
 
+abbrev pub iterations : MeshLists → Comprehension → ℕ → List ℕ → Computation State Done
+iterations mesh c turns ids = for_each (after_iteration mesh c turns) ids
+
 abbrev pub comprehension : MeshLists → Comprehension → ℕ → Computation State Done
-comprehension mesh c turns = for_each (after_iteration mesh c turns) (numbers 0 (count mesh c.over))
+comprehension mesh c turns = iterations mesh c turns (numbers 0 (count mesh c.over))
 
 -- after a stop the state is the one at entry
 abbrev pub restored_outcome : {A : Type 0} → State → State → Result A Stop → Outcome State A
@@ -49,6 +52,10 @@ pub record Entry : Type 0 where
 pub record Progress : Type 0 where
   pub state : State
   pub path : List Entry
+
+-- a path before that of a run so far
+abbrev pub with_earlier_path : List Entry → Progress → Progress
+with_earlier_path path p = record p { path = path ++ p.path }
 
 abbrev pub log_event : Event → Computation Progress Done
 log_event event = modify (λ p. record p { path = p.path ++ record { event = event; state = p.state } ∷ [] })

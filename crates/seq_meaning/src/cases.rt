@@ -12,7 +12,7 @@ ghost use Rattle.liszt_base.specs.declared.elements.Op.TheVariants.{Add};
 ghost use Rattle.kernel_eval.specs.Iterations.{acts, end_of, iteration_end, partial};
 ghost use Rattle.phase_types.specs.Environments.{scopes_of};
 ghost use Rattle.mesh_topology.specs.Internal.Meshes.{one_cell, two_cells};
-ghost use Rattle.seq_meaning.specs.Internal.Cases.{acts_and_folds, adds_greatest, an_act, compares_nil, divides_for_nil, first_comprehension, first_state, locals_end, loop_divides, loops_of_iterations, nested_loops, scopes_of_branches, set_of_nil, with_prints, along_cycles, counts_in_iterations, counts_no_ends, counts_to, divides_by_ids, field_in_scope, heat, id_of_nil, least_id, no_cells, placed, reads_built_ins, sides_of_faces, traps_at_element, traps_in_main, wraps_and_traps, writes_heads, writes_twice};
+ghost use Rattle.seq_meaning.specs.Internal.Cases.{acts_and_folds, adds_greatest, an_act, compares_nil, divides_for_nil, first_comprehension, first_state, locals_end, loop_divides, loops_of_iterations, nested_loops, scopes_of_branches, set_of_nil, with_prints, along_cycles, counts_in_iterations, counts_no_ends, counts_to, divides_by_ids, field_in_scope, heat, id_of_nil, least_id, no_cells, placed, reads_built_ins, scalars_end, sides_of_faces, traps_at_element, traps_in_main, wraps_and_traps, writes_heads, writes_twice};
 ghost use Rattle.seq_meaning.specs.Runs.{print_limit, print_number, ScopeOpened, ScopeClosed, FieldDeclared, ComprehensionReached, RunEnded, fields_left, path_of, phases_of, prints_of, run_end};
 
 /// The degree of each vertex of one cell and of two.
@@ -158,6 +158,12 @@ fn scopes()
     ensures parents { scopes_of scopes_of_branches ≡ replicate 5 0 }
     ensures scalars { map (λ entry. entry.state.scalars) (path_of two_cells acts_and_folds 0)
         ≡ [] ∷ [] ∷ [] ∷ ((0, pos 0) ∷ []) ∷ ((0, pos 0) ∷ []) ∷ [] }
+{}
+
+/// The scalars that a scope declares end with it, and others keep the values assigned in it.
+fn scalars_of_scopes()
+    ensures { map (λ entry. entry.state.scalars) (path_of one_cell scalars_end 0)
+        ≡ [] ∷ ((0, pos 1) ∷ []) ∷ ((0, pos 3) ∷ []) ∷ ((0, pos 3) ∷ []) ∷ [] }
 {}
 
 /// A run prints `print_limit` numbers, and the next `print` traps.

@@ -1,6 +1,6 @@
 //! Laws of the definitions, each the contract of a function that does nothing.
 
-ghost use Rattle.std.specs.Prelude.{◌≡◌, ◌≤◌, ℕ, is_some, length, true};
+ghost use Rattle.std.specs.Prelude.{◌≡◌, ◌≤◌, ℕ, List, is_some, length, true};
 ghost use Rattle.liszt_base.specs.MeshLists.{MeshLists};
 ghost use Rattle.liszt_base.specs.Corners.{IsMesh};
 ghost use Rattle.mesh_topology.specs.Elements.{corner_lists};
@@ -11,9 +11,9 @@ ghost use Rattle.kernel_eval.specs.Meaning.{trap};
 ghost use Rattle.phase_types.specs.Environments.{Comprehension, Site, block_start, next_scope};
 ghost use Rattle.phase_types.specs.Typed.{ComprehensionFits, IsTyped};
 ghost use Rattle.phase_types.specs.Walk.{OfField, mode_in};
-ghost use Rattle.kernel_eval.specs.Preservation.{ChangesNothing, field_values, loop_unfolded};
-ghost use Rattle.kernel_eval.specs.States.{State};
-ghost use Rattle.seq_meaning.specs.Runs.{Progress, comprehension, in_program, in_scope, item_meaning, main_meaning, program_turns, run_end, truth_at};
+ghost use Rattle.kernel_eval.specs.Preservation.{ChangesNothing, Commutes, field_values, loop_unfolded};
+ghost use Rattle.kernel_eval.specs.States.{State, field_lengths, known_scalars};
+ghost use Rattle.seq_meaning.specs.Runs.{Entry, Progress, comprehension, in_program, in_scope, item_meaning, iterations, main_meaning, program_turns, run_end, truth_at, with_earlier_path};
 
 /// A comprehension changes no field that it does not write or reduce, and does not change the turns of the main program.
 pub fn comprehensions_preserve_other_fields()
@@ -23,6 +23,24 @@ pub fn comprehensions_preserve_other_fields()
         → field_values (comprehension mesh c turns s).after field ≡ field_values s field }
     ensures turns { (mesh : MeshLists) (c : Comprehension) (turns : ℕ) (s : State)
         → (comprehension mesh c turns s).after.turns ≡ s.turns }
+{}
+
+/// Iterations over any list of ids leave the prints as they were, the same fields, each with as many values, and the same scalars, also
+/// if one of them traps.
+pub fn iterations_leave_prints_and_parts()
+    ensures prints { (mesh : MeshLists) (c : Comprehension) (turns : ℕ) (ids : List ℕ) (s : State)
+        → ComprehensionFits c
+        → (iterations mesh c turns ids s).after.prints ≡ s.prints }
+    ensures fields { (mesh : MeshLists) (c : Comprehension) (turns : ℕ) (ids : List ℕ) (s : State)
+        → field_lengths (iterations mesh c turns ids s).after ≡ field_lengths s }
+    ensures scalars { (mesh : MeshLists) (c : Comprehension) (turns : ℕ) (ids : List ℕ) (s : State)
+        → known_scalars (iterations mesh c turns ids s).after ≡ known_scalars s }
+{}
+
+/// No program reads the path so far: after a longer one it gives the same answer, and appends the same.
+pub fn the_path_is_never_read()
+    ensures { (mesh : MeshLists) (turns : ℕ) (site : Site) (program : Main) (path : List Entry)
+        → Commutes (with_earlier_path path) (main_meaning mesh turns site program) }
 {}
 
 /// No program increases the number of turns, and a `while` of the main program unfolds: its test; if that is true, a turn, its block,

@@ -1,15 +1,23 @@
 -- Expressions and assignments of the worked cases. This project's own.
-use Rattle.std.specs.Prelude.{◌^◌, ◌-◌, None, [], ℤ, pos, neg_ℤ, Result, Ok, Err}
+use Rattle.std.specs.Prelude.{ℕ, ◌^◌, ◌-◌, Option, Some, None, [], ◌∷◌, codes, ℤ, pos, neg_ℤ, Result, Ok, Err}
+use Rattle.liszt_base.specs.declared.accesses.Mode.{Mode}
+use Rattle.liszt_base.specs.declared.accesses.Spot.{Spot}
 use Rattle.liszt_base.specs.declared.answers.Place.{Place}
 use Rattle.liszt_base.specs.declared.answers.TrapKind.{TrapKind}
+use Rattle.liszt_base.specs.declared.elements.Elem.{Elem}
+use Rattle.liszt_base.specs.declared.elements.Kind.TheVariants.{Edge, Face}
+use Rattle.liszt_base.specs.declared.elements.Op.{Op}
+use Rattle.liszt_tree.specs.declared.tree.Fun.{Fun}
 use Rattle.liszt_tree.specs.declared.tree.Level.TheVariants as level
 use Rattle.liszt_tree.specs.declared.tree.Rel.TheVariants.{Same as Equal}
 use Rattle.liszt_tree.specs.declared.tree.Sign.{Sign}
 use Rattle.liszt_tree.specs.declared.tree.Sign.TheVariants as sign
-use Rattle.liszt_tree.specs.Tree.{nowhere, Expression, Number, Neg, Chain, Compare, no_links, link}
+use Rattle.liszt_tree.specs.Tree.{nowhere, Expression, Number, Call, Neg, Chain, Compare, no_links, link}
 use Rattle.mesh_topology.specs.Internal.Meshes.{one_cell}
+use Rattle.topo_operators.specs.Operators.{unflipped}
+use Rattle.kernel_eval.specs.Expressions.{ElementBindings, element_value}
 use Rattle.kernel_eval.specs.Outcomes.{Stop, Trapped}
-use Rattle.kernel_eval.specs.States.{State, main_evaluation}
+use Rattle.kernel_eval.specs.States.{State, Act, ScalarFold, main_evaluation}
 use Rattle.kernel_eval.specs.Meaning.{Value, NumberValue, meaning}
 
 abbrev pub empty : State
@@ -57,3 +65,24 @@ either a b = Chain level.Or a (link sign.Or nowhere b no_links)
 -- two operators of three numbers, the second at `operator_place`
 abbrev pub chained : ℤ → Sign → ℤ → Sign → ℤ → Expression
 chained a s b t c = Chain level.Sum (Number nowhere a) (link s nowhere (Number nowhere b) (link t operator_place (Number nowhere c) no_links))
+
+-- ACTS AT SPOTS and reductions of scalars
+abbrev pub a_spot : ℕ → ℕ → Spot
+a_spot field id = record { field = field; id = id }
+
+abbrev pub an_act : ℕ → Mode → ℤ → Act
+an_act id mode value = record { spot = a_spot 6 id; mode = mode; value = value }
+
+abbrev pub a_fold : ℕ → Op → ℤ → ScalarFold
+a_fold scalar op value = record { scalar = scalar; op = op; value = value }
+
+-- `e` is the edge from vertex 0 to vertex 1, an older `e` the next one, `f` the first face, and `n` nil
+abbrev pub some_elements : ElementBindings
+some_elements =
+    (codes "e", Some (unflipped Edge 0)) ∷ (codes "f", Some (unflipped Face 0)) ∷ (codes "n", None) ∷ (codes "e", Some (unflipped Edge 1)) ∷ []
+
+abbrev pub element_of : Expression → Option (Option Elem)
+element_of e = element_value one_cell some_elements e
+
+abbrev pub call : Fun → Expression → Expression
+call fun arg = Call nowhere fun arg

@@ -300,6 +300,13 @@ scopes_of_branches =
     equals_zero : ℕ → Expression
     equals_zero n = Compare nowhere Equal (number n) (number 0)
 
+-- SCALARS end with their scope: `var a = 1; if (0 == 0) { var b = 2; a += b }`
+abbrev pub scalars_end : Main
+scalars_end =
+    item (MainVar nowhere (codes "a") nowhere (number 1))
+    (only (MainIf nowhere (Compare nowhere Equal (number 0) (number 0))
+    (item (MainVar nowhere (codes "b") nowhere (number 2)) (only (MainAssign nowhere (codes "a") (Fold Add) (name (codes "b"))))) no_item false))
+
 -- a run that has printed `n` numbers
 abbrev pub with_prints : ℕ → Progress
 with_prints n = record { state = record { fields = []; scalars = []; prints = replicate n (pos 1); turns = 0 }; path = [] }

@@ -1,0 +1,6 @@
+//! What each iteration of a comprehension may access, whatever numbers it reads. So far definitions, with worked cases and a law.
+#![tactic(auto)]
+
+mod cases;
+pub mod laws;
+mod walks;
