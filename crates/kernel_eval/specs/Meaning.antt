@@ -24,6 +24,7 @@ use Rattle.liszt_tree.specs.Tree.{Statement, Var, Val, Assign, If, While, For, B
 use Rattle.topo_operators.specs.Operators.{head, tail, inside, outside, flip, towards, same, valid, members}
 use Rattle.phase_types.specs.Environments.{Environment, Binding, FieldName, ScalarName, binding_of, is_built_in}
 use Rattle.phase_types.specs.Walk.{mode_by}
+pub use Rattle.code_eval.specs.Arithmetic.{is_in_range, holds, operand, assigned_value, built_in_value, spot_of}
 use Rattle.kernel_eval.specs.Outcomes.{Trapped, NoMeaning, Outcome, Computation, Done, pure, halt, modify, skip, ◌>>=◌, ◌>>◌, if_then_else, for_each, Turns, loop}
 use Rattle.kernel_eval.specs.States.{State, value_in, with_value, with_fields, scalar_value, with_scalar_value, EvaluationState, element_bound_to, local_bound_to, with_element, with_local, with_local_value, with_act, with_fold, with_state, after_block}
 
@@ -52,10 +53,7 @@ abbrev pub element_of : Value → Computation EvaluationState (Option Elem)
 element_of (ElementValue x) = pure x
 element_of _ = no_meaning
 
--- NUMBERS are signed, of 64 bits; a result outside of them is an overflow, at its operator.
-abbrev pub is_in_range : ℤ → Bool
-is_in_range n = int_le (neg_ℤ (pos (2 ^ 63))) n && int_lt n (pos (2 ^ 63))
-
+-- NUMBERS out of range are an overflow, at the operator.
 abbrev pub checked_number : Place → ℤ → Computation EvaluationState Value
 checked_number place n = if_then_else (is_in_range n) (pure (NumberValue n)) (trap Overflow place)
 
@@ -88,14 +86,6 @@ complement (TruthValue b) = pure (TruthValue (not b))
 complement _ = no_meaning
 
 -- COMPARISONS of numbers, and of elements, which ignores orientation
-abbrev pub holds : Rel → ℤ → ℤ → Bool
-holds Same a b = int_le a b && int_le b a
-holds Other a b = not (int_le a b && int_le b a)
-holds Below a b = int_lt a b
-holds AtMost a b = int_le a b
-holds Above a b = int_lt b a
-holds AtLeast a b = int_le b a
-
 abbrev pub comparison_result : Rel → Value → Value → Computation EvaluationState Value
 comparison_result rel (NumberValue a) (NumberValue b) = pure (TruthValue (holds rel a b))
 comparison_result Same (ElementValue x) (ElementValue y) = pure (TruthValue (same x y))
@@ -132,16 +122,8 @@ name_read None None global = global_read global
 
 -- FIELDS: the values of built-in fields are those of the mesh, those of other fields are in the state. An access at nil traps, at the
 -- name of the field.
-abbrev pub built_in_value : MeshLists → Spot → Option ℤ
-built_in_value mesh spot =
-    if spot.field == 4 then option_map (λ cell. cell.region) (slice_get mesh.cells spot.id)
-    else option_and_then (λ p. slice_get (p.x ∷ p.y ∷ p.z ∷ p.mark ∷ []) spot.field) (slice_get mesh.points spot.id)
-
 abbrev pub spot_value : MeshLists → State → Spot → Option ℤ
 spot_value mesh s spot = if is_built_in spot.field then built_in_value mesh spot else value_in s.fields spot
-
-abbrev pub spot_of : ℕ → Elem → Spot
-spot_of number x = record { field = number; id = x.id }
 
 abbrev pub read_spot : Spot → Option ℤ → Computation EvaluationState Value
 read_spot spot (Some n) = λ m. pure (NumberValue n) (with_act (record { spot = spot; mode = Read; value = n }) m)
@@ -180,16 +162,7 @@ truth_in mesh environment e = meaning mesh environment e >>= λ v. truth_of v
 abbrev pub element_in : MeshLists → Environment → Expression → Computation EvaluationState (Option Elem)
 element_in mesh environment e = meaning mesh environment e >>= λ v. element_of v
 
--- ASSIGNMENTS: `=` replaces the value, an operator folds the old value and the operand, and `-=` is `+=` of the negation modulo 2^64.
-abbrev pub operand : How → ℤ → ℤ
-operand Less n = value (word (neg_ℤ n))
-operand how n = n
-
-abbrev pub assigned_value : How → ℤ → ℤ → ℤ
-assigned_value Set old n = n
-assigned_value (Fold op) old n = fold op old n
-assigned_value Less old n = fold Add old (operand Less n)
-
+-- ASSIGNMENTS to a spot, a local number and a scalar
 abbrev pub assign_spot : Spot → How → ℤ → Option ℤ → Computation EvaluationState Done
 assign_spot spot how n (Some old) =
     modify (λ m. with_act (record { spot = spot; mode = mode_by how; value = operand how n }) (with_state (with_fields (with_value spot (assigned_value how old n) m.state.fields) m.state) m))

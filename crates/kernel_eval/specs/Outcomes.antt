@@ -1,11 +1,6 @@
 -- Computations in sequence, up to the first stop. This project's own.
 use Rattle.std.specs.Prelude.{ℕ, zero, suc, Bool, true, false, List, [], ◌∷◌, Result, Ok, Err}
-use Rattle.liszt_base.specs.declared.answers.Trap.{Trap}
-
--- A STOP is a trap, or the lack of a meaning, as of the sum of two truth values; only programs that are not typed can have that.
-pub data Stop : Type 0 where
-  Trapped : Trap → Stop
-  NoMeaning : Stop
+pub use Rattle.code_eval.specs.Stops.{Stop, Trapped, NoMeaning}
 
 -- AN OUTCOME is the state afterwards, also after a stop, and the value or the stop. A computation takes a state to an outcome.
 pub record Outcome (S A : Type 0) : Type 0 where

@@ -5,6 +5,7 @@ use Rattle.liszt_base.specs.Reductions.{fold}
 use Rattle.liszt_base.specs.declared.accesses.Mode.{Mode}
 use Rattle.liszt_base.specs.declared.accesses.Mode.TheVariants.{Read, Write, Reduce}
 use Rattle.liszt_base.specs.declared.accesses.Spot.{Spot}
+pub use Rattle.code_eval.specs.Acts.{is_spot, value_by as value_after_act}
 use Rattle.phase_types.specs.Environments.{Comprehension, lookup}
 use Rattle.phase_types.specs.Walk.{OfField, OfScalar, mode_in}
 use Rattle.kernel_eval.specs.Outcomes.{Outcome, Computation, Done, ◌>>=◌, ◌>>◌, if_then_else, skip, Turns, take_turn}
@@ -37,14 +38,6 @@ pub record ActsDetermineFields (m after : EvaluationState) : Type 0 where
   pub fields_are : after.state.fields ≡ fields_after_acts m.state.fields new_acts
 
 -- THE VALUE AT ONE SPOT AFTER ACTS: those at other spots leave it as it is.
-abbrev pub value_after_act : Mode → ℤ → ℤ → ℤ
-value_after_act Read value old = old
-value_after_act Write value old = value
-value_after_act (Reduce op) value old = fold op old value
-
-abbrev pub is_spot : Spot → Spot → Bool
-is_spot spot other = (spot.field == other.field) && (spot.id == other.id)
-
 abbrev pub value_after_acts : Spot → Option ℤ → List Act → Option ℤ
 value_after_acts spot value [] = value
 value_after_acts spot value (act ∷ rest) =

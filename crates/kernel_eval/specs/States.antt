@@ -7,6 +7,7 @@ use Rattle.liszt_base.specs.declared.accesses.Mode.{Mode}
 use Rattle.liszt_base.specs.declared.accesses.Spot.{Spot}
 use Rattle.liszt_base.specs.declared.elements.Elem.{Elem}
 use Rattle.liszt_base.specs.declared.elements.Op.{Op}
+pub use Rattle.code_eval.specs.Acts.{Act}
 use Rattle.phase_types.specs.Environments.{lookup}
 
 -- a finite map with another value at the first key that passes a test; at all of them
@@ -54,12 +55,6 @@ field_lengths s = map (λ field. (field.0, length field.1)) s.fields
 
 abbrev pub known_scalars : State → List ℕ
 known_scalars s = map (λ scalar. scalar.0) s.scalars
-
--- AN ACT reads, writes or reduces a spot, with the value that is read, written, or the operand of the reduction.
-pub record Act : Type 0 where
-  pub spot : Spot
-  pub mode : Mode
-  pub value : ℤ
 
 -- a reduction of a scalar of the main program, with its operand
 pub record ScalarFold : Type 0 where
