@@ -15,6 +15,7 @@ pub mod PreservationLemmas
 pub mod ReductionLemmas
 pub mod ScalarAccessLemmas
 pub mod ShapeLemmas
+pub mod SimulationLemmas
 pub mod TraversalLemmas
 pub mod TripleLemmas
 pub mod TypedEvaluationLemmas

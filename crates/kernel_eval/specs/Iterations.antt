@@ -1,8 +1,8 @@
 -- One iteration of a comprehension: its outcome, its acts, its end, and its partial reductions of scalars. This project's own.
-use Rattle.std.specs.Prelude.{ℕ, ◌==◌, Option, Some, None, List, [], ◌∷◌, map, ℤ, Result, Ok, Err}
-use Rattle.std.specs.List.{filter, fold}
+use Rattle.std.specs.Prelude.{ℕ, ◌==◌, Option, Some, None, List, [], ◌∷◌, map, get_or, ℤ, pos, Result, Ok, Err}
+use Rattle.std.specs.List.{filter, fold, slice_set}
 use Rattle.liszt_base.specs.MeshLists.{MeshLists}
-use Rattle.liszt_base.specs.Reductions.{fold as folded, identity_of}
+use Rattle.liszt_base.specs.Reductions.{fold as folded, fold as folded_value, identity_of}
 use Rattle.liszt_base.specs.declared.accesses.Mode.{Mode}
 use Rattle.liszt_base.specs.declared.accesses.Mode.TheVariants.{Reduce}
 use Rattle.liszt_base.specs.declared.answers.RunEnd.{RunEnd}
@@ -11,7 +11,7 @@ use Rattle.topo_operators.specs.Operators.{unflipped}
 use Rattle.phase_types.specs.Environments.{Comprehension}
 use Rattle.phase_types.specs.Walk.{OfScalar, mode_in}
 use Rattle.kernel_eval.specs.Outcomes.{Stop, Trapped, NoMeaning, Outcome, Done}
-use Rattle.kernel_eval.specs.States.{State, Act, EvaluationState}
+use Rattle.kernel_eval.specs.States.{State, Act, ScalarFold, EvaluationState}
 use Rattle.kernel_eval.specs.Meaning.{body_meaning}
 
 -- THE ITERATION of the element `id`, from a state, with a number of turns: the name of the comprehension denotes the element.
@@ -51,3 +51,12 @@ abbrev pub partial : MeshLists → Comprehension → ℕ → State → ℕ → �
 partial mesh c turns s id scalar =
     reduced_value (mode_in c (OfScalar scalar))
     (map (λ f. f.value) (filter (λ f. f.scalar == scalar) (iteration mesh c turns s id).after.folds))
+
+-- PARTIALS by the numbers of scalars, after reductions, each of which folds the partial of its scalar
+abbrev pub partials_after_fold : List ℤ → ScalarFold → List ℤ
+partials_after_fold partials folded =
+    slice_set partials folded.scalar (folded_value folded.op (get_or partials folded.scalar (pos 0)) folded.value)
+
+abbrev pub partials_after : List ℤ → List ScalarFold → List ℤ
+partials_after partials [] = partials
+partials_after partials (folded ∷ rest) = partials_after (partials_after_fold partials folded) rest
