@@ -13,6 +13,8 @@ pub mod MainExpressionLemmas
 pub mod PartLemmas
 pub mod PreservationLemmas
 pub mod ReductionLemmas
+pub mod ResolvedExpressionLemmas
+pub mod ResolvingLemmas
 pub mod ScalarAccessLemmas
 pub mod ShapeLemmas
 pub mod SimulationLemmas
