@@ -62,7 +62,7 @@ use Rattle.code_eval.proofs.LayerLemmas.{slot_is, call_is, towards_is, constant_
 use Rattle.kernel_eval.specs.Meaning.{Value, NumberValue, TruthValue, ElementValue, number_of, truth_of, element_of, is_in_range, built_in_value, spot_of, checked_number, checked_division, operator_result, is_decided, negation, complement, holds, comparison_result, id_result, call_result, scalar_read, read_spot, spot_value, field_read, name_read, trap, meaning, links_meaning}
 use Rattle.kernel_eval.specs.Outcomes.{Computation, and_then, pure, if_then_else}
 use Rattle.kernel_eval.specs.States.{EvaluationState, value_in, scalar_value, local_bound_to, element_bound_to, with_act}
-use Rattle.kernel_eval.proofs.ResolvingLemmas.{IfOk, ok_then, in_sequence, Within, access_known}
+use Rattle.kernel_eval.proofs.ResolvingLemmas.{IfOk, ok_then, ok_weaken, ok_under, in_sequence, Within, access_known}
 use Rattle.kernel_eval.proofs.SimulationLemmas.{Setting, known_mode, NameAgrees, Agrees, IsNested, Matches, Simulates, extends_itself, nested_itself, simulates_then, simulates_if, simulates_value, simulates_trap, simulates_as}
 
 
@@ -502,3 +502,103 @@ module _ (c : Setting) (names : Names) where
       subst (Follows (Chain level first links)) (sym g.0) (subst (λ links. ElementFollows kind (meaning c.mesh c.globals (Chain level first links)) (resolved.element_execution c.mesh x)) (sym g.1)
       (simulates_as (resolved.element_execution c.mesh x >>= λ y. code.pure y) (with_value_alone (resolved.element_execution c.mesh x) c)
       (simulates_then {next = λ v. pure v} (extends_itself names) h (λ v y is. simulates_value is))))
+
+  -- EVERY FORM of expression
+  pub simulates_given : {A B : Type 0} {V : A → B → Type 0} {S : EvaluationState → Activation → Type 0} {computation : Computation EvaluationState A} {p : Execution B}
+      → ((m : EvaluationState) (a : Activation) → Agrees c names m a → Simulates c V (Agrees c names) S names computation p) → Simulates c V (Agrees c names) S names computation p
+  simulates_given h = record { at = λ m a r. (h m a r).at m a r }
+
+  last : (e : Expression) (accesses mid : Accesses) (r : Result TypedCode ProgramFault) → (Within c mid → Within c accesses × IfOk (Follows e) r)
+      → IfOk (IsCode e accesses) (in_sequence r (λ value. Ok (value, mid)))
+  last e accesses mid (Ok value) f = f
+  last e accesses mid (Err fault) f = tt
+
+  field_code : (place : Place) (name : List ℕ) (arg : Expression) (field : ℕ) (kind : Kind) (accesses : Accesses) → resolution_of names name ≡ Some (resolution.Field field kind)
+      → (operand : TypedCode) (mid : Accesses) → IsCode arg accesses (operand, mid)
+      → IfOk (IsCode (Field place name arg) accesses)
+      (in_sequence (element_of_kind kind place operand) (λ target. in_sequence (with_access mid (OfField field) Read place) (λ later. Ok (typed.Number (number.Field place field target), later))))
+  field_code place name arg field kind accesses is (typed.Element other x) mid h = go (is_kind kind other) where
+    abbrev_next : ElementCode → Result (TypedCode × Accesses) ProgramFault
+    abbrev_next target = in_sequence (with_access mid (OfField field) Read place) (λ later. Ok (typed.Number (number.Field place field target), later))
+
+    field_at : known_mode c (OfField field) ≡ Some Read → Follows arg (typed.Element other x) → Follows (Field place name arg) (typed.Number (number.Field place field x))
+    field_at mode f = rw (field_is c.mesh place field x) (simulates_given (λ m a r.
+        element_step (λ y. field_read c.mesh place (binding_of c.globals name) y) (λ y. resolved.field_read c.mesh place field y) f
+        (λ y of. field_follows place field kind (binding_of c.globals name) y (named name r is) mode)))
+
+    go : (b : Bool) → IfOk (IsCode (Field place name arg) accesses) (in_sequence (if b then Ok x else fails TypeMismatch place) abbrev_next)
+    go false = tt
+    go true =
+        ok_then (λ later. Within c later → Within c mid × (known_mode c (OfField field) ≡ Some Read)) (IsCode (Field place name arg) accesses) (with_access mid (OfField field) Read place)
+        (λ later. Ok (typed.Number (number.Field place field x), later)) (access_known c mid (OfField field) Read place)
+        (λ later k w. let mode = k w in let f = h mode.0 in (f.0, field_at mode.1 f.1))
+  field_code place name arg field kind accesses is _ mid h = tt
+
+  field_name_code : (place : Place) (name : List ℕ) (arg : Expression) (accesses : Accesses) (found : Option Resolution) → resolution_of names name ≡ found
+      → (operand : Result (TypedCode × Accesses) ProgramFault) → IfOk (IsCode arg accesses) operand
+      → IfOk (IsCode (Field place name arg) accesses)
+      (in_sequence (named_field place found) (λ field. in_sequence operand (λ operand. in_sequence (element_of_kind field.1 place operand.0)
+      (λ target. in_sequence (with_access operand.1 (OfField field.0) Read place) (λ later. Ok (typed.Number (number.Field place field.0 target), later))))))
+  field_name_code place name arg accesses (Some (resolution.Field field kind)) is operand h =
+      ok_then (IsCode arg accesses) (IsCode (Field place name arg) accesses) operand _ h (λ operand g. field_code place name arg field kind accesses is operand.0 operand.1 g)
+  field_name_code place name arg accesses None is operand h = tt
+  field_name_code place name arg accesses (Some other) is operand h = tt
+
+  called_follows : (place : Place) (fun : Fun) (arg : Expression) (operand : TypedCode) → Follows arg operand → IfOk (Follows (Call place fun arg)) (called_code place fun operand)
+  called_follows place fun arg (typed.Element kind x) h = call_follows place fun kind arg x h
+  called_follows place fun arg _ h = tt
+
+  towards_follows : (place : Place) (arg to : Expression) (x y : TypedCode) → Follows arg x → Follows to y → IfOk (Follows (Towards place arg to)) (towards_code place x y)
+  towards_follows place arg to (typed.Element kind x) (typed.Element other y) h g = go (are_towards_kinds kind other) refl where
+    go : (b : Bool) → are_towards_kinds kind other ≡ b
+        → IfOk (Follows (Towards place arg to)) (if b then Ok (typed.Element kind (element.Towards x y)) else fails TypeMismatch place)
+    go true is = towards_both place arg to kind other x y is h g
+    go false is = tt
+  towards_follows place arg to _ _ h g = tt
+
+  negated_follows : (place : Place) (arg : Expression) (operand : TypedCode) → Follows arg operand → IfOk (Follows (Neg place arg)) (negated place operand)
+  negated_follows place arg (typed.Number x) h =
+      rw (neg_is c.mesh place x) (simulates_then {next = λ v. negation place v} (extends_itself names) h (λ v n e. rw e (checked place (neg_ℤ n))))
+  negated_follows place arg _ h = tt
+
+  inverted_follows : (place : Place) (arg : Expression) (operand : TypedCode) → Follows arg operand → IfOk (Follows (Not place arg)) (inverted place operand)
+  inverted_follows place arg (typed.Truth x) h =
+      rw (not_is c.mesh x) (simulates_then {next = λ v. complement v} (extends_itself names) h (λ v b e. rw e (simulates_value refl)))
+  inverted_follows place arg _ h = tt
+
+  mutual
+    pub expression_code : (accesses : Accesses) (e : Expression) → IfOk (IsCode e accesses) (resolved_expression names accesses e)
+    expression_code accesses (Number place value) = λ w. (w, rw (constant_is c.mesh value) (simulates_value refl))
+    expression_code accesses (Name place name) = name_code place name accesses (resolution_of names name) refl
+    expression_code accesses (Field place name arg) =
+        field_name_code place name arg accesses (resolution_of names name) refl (resolved_expression names accesses arg) (expression_code accesses arg)
+    expression_code accesses (Call place fun arg) =
+        ok_then (IsCode arg accesses) (IsCode (Call place fun arg) accesses) (resolved_expression names accesses arg) _ (expression_code accesses arg)
+        (λ operand h. last (Call place fun arg) accesses operand.1 (called_code place fun operand.0) (λ w. ((h w).0, called_follows place fun arg operand.0 (h w).1)))
+    expression_code accesses (Towards place arg to) =
+        ok_then (IsCode arg accesses) (IsCode (Towards place arg to) accesses) (resolved_expression names accesses arg) _ (expression_code accesses arg) (λ x h.
+        ok_then (IsCode to x.1) (IsCode (Towards place arg to) accesses) (resolved_expression names x.1 to) _ (expression_code x.1 to) (λ y g.
+        last (Towards place arg to) accesses y.1 (towards_code place x.0 y.0) (λ w. ((h (g w).0).0, towards_follows place arg to x.0 y.0 (h (g w).0).1 (g w).1))))
+    expression_code accesses (Neg place arg) =
+        ok_then (IsCode arg accesses) (IsCode (Neg place arg) accesses) (resolved_expression names accesses arg) _ (expression_code accesses arg)
+        (λ operand h. last (Neg place arg) accesses operand.1 (negated place operand.0) (λ w. ((h w).0, negated_follows place arg operand.0 (h w).1)))
+    expression_code accesses (Not place arg) =
+        ok_then (IsCode arg accesses) (IsCode (Not place arg) accesses) (resolved_expression names accesses arg) _ (expression_code accesses arg)
+        (λ operand h. last (Not place arg) accesses operand.1 (inverted place operand.0) (λ w. ((h w).0, inverted_follows place arg operand.0 (h w).1)))
+    expression_code accesses (Chain level first links) =
+        ok_then (IsCode first accesses) (IsCode (Chain level first links) accesses) (resolved_expression names accesses first) _ (expression_code accesses first) (λ operand h.
+        ok_weaken (AreCode links (first_of_chain operand.0) operand.1) (IsCode (Chain level first links) accesses) (resolved_links names operand.1 (first_of_chain operand.0) links)
+        (links_code operand.1 (first_of_chain operand.0) links) (λ value g w. ((h (g w).0).0, chain_follows level first links operand.0 value.0 (h (g w).0).1 (g w).1)))
+    expression_code accesses (Compare place rel left right) =
+        ok_then (IsCode left accesses) (IsCode (Compare place rel left right) accesses) (resolved_expression names accesses left) _ (expression_code accesses left) (λ x h.
+        ok_then (IsCode right x.1) (IsCode (Compare place rel left right) accesses) (resolved_expression names x.1 right) _ (expression_code x.1 right) (λ y g.
+        last (Compare place rel left right) accesses y.1 (comparison_code place rel x.0 y.0) (λ w. ((h (g w).0).0, comparison_follows place rel left right x.0 y.0 (h (g w).0).1 (g w).1))))
+
+    links_code : (accesses : Accesses) (done : ChainCode) (links : Links) → IfOk (AreCode links done accesses) (resolved_links names accesses done links)
+    links_code accesses done no_links = no_links_code accesses done
+    links_code accesses done (link s place arg rest) =
+        ok_then (IsCode arg accesses) (AreCode (link s place arg rest) done accesses) (resolved_expression names accesses arg) _ (expression_code accesses arg) (λ operand h.
+        ok_then (λ next. Within c operand.1 → Extended s place arg done next) (AreCode (link s place arg rest) done accesses) (extended_chain place s done operand.0) _
+        (ok_under (Within c operand.1) (Extended s place arg done) (extended_chain place s done operand.0) (λ w. extended_follows s place arg done operand.0 (h w).1)) (λ next f.
+        ok_weaken (AreCode rest next operand.1) (AreCode (link s place arg rest) done accesses) (resolved_links names operand.1 next rest) (links_code operand.1 next rest)
+        (λ value g w. ((h (g w).0).0, f (g w).0 rest value.0 (g w).1))))

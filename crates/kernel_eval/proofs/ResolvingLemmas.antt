@@ -27,6 +27,14 @@ pub ok_then : {A B : Type 0} (P : A → Type 0) (Q : B → Type 0) (first : Resu
 ok_then P Q (Ok a) next h g = g a h
 ok_then P Q (Err fault) next h g = tt
 
+pub ok_weaken : {A : Type 0} (P Q : A → Type 0) (r : Result A ProgramFault) → IfOk P r → ((a : A) → P a → Q a) → IfOk Q r
+ok_weaken P Q (Ok a) h g = g a h
+ok_weaken P Q (Err fault) h g = tt
+
+pub ok_under : {A : Type 0} (W : Type 0) (P : A → Type 0) (r : Result A ProgramFault) → (W → IfOk P r) → IfOk (λ a. W → P a) r
+ok_under W P (Ok a) f = f
+ok_under W P (Err fault) f = tt
+
 -- ACCESSES that are among those of the whole comprehension
 abbrev pub Within : Setting → Accesses → Type 0
 Within c None = ⊥
