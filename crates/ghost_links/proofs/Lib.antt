@@ -1,0 +1,7 @@
+pub mod LayoutLemmas
+pub mod MapLemmas
+pub mod SeatLemmas
+pub mod SharedLemmas
+pub mod StageLemmas
+pub mod StepLemmas
+pub mod SumLemmas
