@@ -1,5 +1,6 @@
 pub mod LayoutLemmas
 pub mod MapLemmas
+pub mod RuleLemmas
 pub mod SeatLemmas
 pub mod SharedLemmas
 pub mod StageLemmas

@@ -1,6 +1,6 @@
 -- The link rule, over the words of a table and the views of all seats. It is in a compact form, which the proof of each step uses;
 -- `laws::link_rule` has its sentences one by one. This project's own.
-use Rattle.std.specs.Prelude.{◌≡◌, ◌⊎◌, ℕ, ◌+◌, ◌*◌, ◌<◌, ◌≤◌, ◌^◌, true, false, cond, List, [], ◌∷◌, length, replicate, slice_index, slice_index_or}
+use Rattle.std.specs.Prelude.{◌≡◌, ◌≢◌, ◌⊎◌, ℕ, ◌+◌, ◌*◌, ◌<◌, ◌≤◌, ◌^◌, true, false, cond, List, [], ◌∷◌, length, replicate, slice_index, slice_index_or}
 use Rattle.std.specs.declared.option.Option.TheVariants.{Some}
 use mathlib.Core.Option.{some}
 use lib.ListN.{get_elem?}
@@ -75,6 +75,14 @@ pub record IsLinked (layout : Layout) (s : TableState) : Type 0 where
   pub full : (link n : ℕ) → link < turn_count layout → slice_index s.words link ≡ 2 * n + 1
       → HavePacket layout script s.words link n
   pub each : (j : ℕ) (v : View) → get_elem? s.views j ≡ some v → ViewFits layout script s.words v
+
+-- One view has the end, and no other.
+pub record IsInOneView (s : TableState) (x : ℕ) : Type 0 where
+  pub place : ℕ
+  pub view_there : View
+  pub there : get_elem? s.views place ≡ some view_there
+  pub has : occurrences x view_there.ends ≡ 1
+  pub alone : (j : ℕ) (v : View) → j ≢ place → get_elem? s.views j ≡ some v → occurrences x v.ends ≡ 0
 
 -- Before the script is set, which is a part of making the table, there is one view and all words are 0.
 pub record IsOpening (layout : Layout) (s : TableState) : Type 0 where
