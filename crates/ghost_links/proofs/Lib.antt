@@ -1,3 +1,5 @@
+pub mod AnswerLemmas
+pub mod EndLemmas
 pub mod LayoutLemmas
 pub mod MapLemmas
 pub mod RuleLemmas

@@ -643,7 +643,7 @@ zeros_at (suc k) (suc x) = zeros_at k x
 end_is_below : (ranks x : ℕ) → is_end ranks x ≡ true → x < 2 * (ranks * ranks)
 end_is_below ranks x is = let half = link_below ranks (x / 2) is in omega arith
 
-occurrences_of_all : (ranks x : ℕ) → occurrences x (all_ends ranks) ≡ cond (is_end ranks x) 1 0
+pub occurrences_of_all : (ranks x : ℕ) → occurrences x (all_ends ranks) ≡ cond (is_end ranks x) 1 0
 occurrences_of_all ranks x = dite (dec_le (x + 1) (2 * (ranks * ranks)))
     (λ lt. occurrences_of_new ranks (2 * (ranks * ranks)) x (omega arith))
     (λ ge. no_new_end ranks (2 * (ranks * ranks)) x (omega arith) ∙ sym (none_there (is_end ranks x) refl ge))

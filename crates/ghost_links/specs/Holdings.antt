@@ -112,6 +112,23 @@ Takes link x Taken h k old new =
 Takes link x (TakeNotYet word) h k old new =
     (word % 2 ≡ 0) × (word ≡ 2 * next_number h x) × (k ≡ after_load x word h) × (new ≡ old)
 
+-- A call that changed one end of a seat, which is idle, and whose next number rose by n.
+pub record ChangedOneEnd (x n : ℕ) (h k : Holding) : Type 0 where
+  pub links : k.links ≡ h.links
+  pub script : k.script ≡ h.script
+  pub idle : has_idle k x ≡ true
+  pub next : next_number k x ≡ next_number h x + n
+  pub others : (y : ℕ) → y ≢ x → end_in k.ends y ≡ end_in h.ends y
+
+-- 1 for a packet that was posted or taken, else 0
+abbrev pub posted_count : PostAnswer → ℕ
+posted_count Posted = 1
+posted_count (PostNotYet word) = 0
+
+abbrev pub taken_count : TakeAnswer → ℕ
+taken_count Taken = 1
+taken_count (TakeNotYet word) = 0
+
 -- the first seat of a table
 abbrev pub first_holding : LinkTable → (ℕ → ℕ → List (List ℕ)) → Holding
 first_holding t packets = holding t.table (first_view t.layout packets)

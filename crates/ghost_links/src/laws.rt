@@ -1,7 +1,7 @@
 //! What the definitions of links say, each law the contract of a function that does nothing.
 
-ghost use Rattle.std.specs.Prelude.{◌≡◌, ◌≢◌, ◌↔◌, ◌⊎◌, ◌+◌, ◌*◌, ◌%◌, ◌<◌, ◌≤◌, ◌^◌, ℕ, true, false, List, [], ◌∷◌, length, slice_index, slice_index_or};
-ghost use Rattle.std.specs.declared.option.Option.TheVariants.{Some};
+ghost use Rattle.std.specs.Prelude.{◌≡◌, ◌≢◌, ◌↔◌, ◌+◌, ◌*◌, ◌%◌, ◌<◌, ◌≤◌, ◌^◌, ℕ, true, false, cond, eqb, List, [], ◌∷◌, length, slice_index, slice_index_or};
+ghost use Rattle.std.specs.declared.option.Option.TheVariants.{None, Some};
 ghost use mathlib.Core.Option.{some};
 ghost use lib.ListN.{get_elem?};
 ghost use Rattle.ghost_links.specs.declared.links.PostAnswer.{PostAnswer};
@@ -12,9 +12,9 @@ ghost use Rattle.ghost_links.specs.declared.view.End.{End};
 ghost use Rattle.ghost_links.specs.declared.view.View.{View};
 ghost use Rattle.ghost_links.specs.Layouts.{Layout, first_word, given_room, given_size, is_link, layout_of, packet_size, turn_count, turn_word};
 ghost use Rattle.ghost_links.specs.Scripts.{packet_of, script_over};
-ghost use Rattle.ghost_links.specs.Ends.{end_in, is_end, receiving_end, sending_end};
+ghost use Rattle.ghost_links.specs.Ends.{end_in, idle, is_end, occurrences, receiving_end, sending_end};
 ghost use Rattle.ghost_links.specs.LinkRule.{FollowsRule, HavePacket, IsInOneView, IsLinked, PutsPacket, TableState};
-ghost use Rattle.ghost_links.specs.Holdings.{Holding, IsSeat, Posts, Takes, has_idle, last_word};
+ghost use Rattle.ghost_links.specs.Holdings.{ChangedOneEnd, HasLink, Holding, IsSeat, LinkTable, Posts, Takes, after_join, after_split, first_holding, handed_holding, has_idle, last_word, posted_count, receiver, sender, taken_count};
 ghost use Rattle.ghost_links.specs.Packets.{PacketWords};
 
 /// All views but those of seats that were joined away have one script; a view that was joined away has no end. The packets of each link
@@ -83,6 +83,42 @@ pub fn answers_by_the_loaded_word()
     ensures take_step { (link x word : ℕ) (h k : Holding) (old new : PacketWords)
         → has_idle h x ≡ true → Takes link x (TakeNotYet word) h k old new
         → (last_word k x ≡ Some word) × (k.steps ≡ h.steps + 1) }
+{}
+
+/// A post or a take changes no end but its own, which is idle again. Its next number rises by one exactly where a packet was posted or
+/// taken.
+pub fn answers_change_one_end()
+    ensures post { (x : ℕ) (packet : List ℕ) (answer : PostAnswer) (h k : Holding)
+        → has_idle h x ≡ true → Posts x packet answer h k
+        → ChangedOneEnd x (posted_count answer) h k }
+    ensures take { (link x : ℕ) (answer : TakeAnswer) (h k : Holding) (old new : PacketWords)
+        → has_idle h x ≡ true → Takes link x answer h k old new
+        → ChangedOneEnd x (taken_count answer) h k }
+{}
+
+/// The first seat has both ends of each link, idle before packet 0. A split hands over exactly the ends of the rank: the sending ends
+/// of the links from it, and the receiving ends of the links to it. A join has the ends of both seats.
+pub fn seats_have_ends()
+    ensures first_sender { (t : LinkTable) (packets : ℕ → ℕ → List (List ℕ)) (a b : ℕ)
+        → HasLink t a b → end_in (first_holding t packets).ends (sender t a b)
+        ≡ Some (idle 0 None) }
+    ensures first_receiver { (t : LinkTable) (packets : ℕ → ℕ → List (List ℕ)) (a b : ℕ)
+        → HasLink t a b → end_in (first_holding t packets).ends (receiver t a b)
+        ≡ Some (idle 0 None) }
+    ensures handed_sender { (h : Holding) (rank a b : ℕ) → HasLink h.links a b
+        → end_in (handed_holding rank h).ends (sender h.links a b)
+        ≡ cond (eqb a rank) (end_in h.ends (sender h.links a b)) None }
+    ensures handed_receiver { (h : Holding) (rank a b : ℕ) → HasLink h.links a b
+        → end_in (handed_holding rank h).ends (receiver h.links a b)
+        ≡ cond (eqb b rank) (end_in h.ends (receiver h.links a b)) None }
+    ensures kept_sender { (h : Holding) (rank a b : ℕ) → HasLink h.links a b
+        → end_in (after_split rank h).ends (sender h.links a b)
+        ≡ cond (eqb a rank) None (end_in h.ends (sender h.links a b)) }
+    ensures kept_receiver { (h : Holding) (rank a b : ℕ) → HasLink h.links a b
+        → end_in (after_split rank h).ends (receiver h.links a b)
+        ≡ cond (eqb b rank) None (end_in h.ends (receiver h.links a b)) }
+    ensures joined { (h k : Holding) (x : ℕ) → end_in (after_join h k).ends x
+        ≡ cond (eqb (occurrences x h.ends) 1) (end_in h.ends x) (end_in k.ends x) }
 {}
 
 /// The links of a table are the pairs of different ranks. Their data words follow the turn words in the order of the turn words, one
