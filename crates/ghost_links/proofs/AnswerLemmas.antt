@@ -1,5 +1,5 @@
 -- What a post, a take, a split and a join leave of a seat, for those who call them.
-use Rattle.std.proofs.Common.{◌≡◌, ◌≢◌, ℕ, ◌+◌, ◌*◌, List, length, Some, true, false, not, refl, sym, ap, ◌∙◌, arith}
+use Rattle.std.proofs.Common.{◌≡◌, ℕ, ◌+◌, ◌*◌, List, length, Some, true, false, not, refl, sym, ap, ◌∙◌, arith}
 use Rattle.ghost_links.specs.declared.links.PostAnswer.{PostAnswer}
 use Rattle.ghost_links.specs.declared.links.PostAnswer.TheVariants.{Posted, NotYet as PostNotYet}
 use Rattle.ghost_links.specs.declared.links.TakeAnswer.{TakeAnswer}
@@ -7,7 +7,7 @@ use Rattle.ghost_links.specs.declared.links.TakeAnswer.TheVariants.{Taken, NotYe
 use Rattle.ghost_links.specs.declared.view.End.{End}
 use Rattle.ghost_links.specs.Ends.{end_in, idle}
 use Rattle.ghost_links.specs.Packets.{PacketWords}
-use Rattle.ghost_links.specs.Holdings.{ChangedOneEnd, Holding, Posts, Takes, after_steps, has_idle, is_idle, next_number, next_of, posted_count, taken_count}
+use Rattle.ghost_links.specs.Holdings.{ChangedOneEnd, Holding, Posts, Takes, after_steps, has_idle, is_idle, next_of, posted_count, taken_count}
 use Rattle.ghost_links.proofs.MapLemmas.{end_in_changed_else}
 use Rattle.ghost_links.proofs.SeatLemmas.{idle_end}
 use Rattle.ghost_links.proofs.StageLemmas.{end_after_steps}

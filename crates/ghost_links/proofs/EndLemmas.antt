@@ -1,9 +1,9 @@
 -- Which ends a seat has: the first seat of a table, and the seats after a split and a join.
-use Rattle.std.proofs.Common.{◌≡◌, ◌≢◌, ℕ, ◌+◌, ◌*◌, ◌/◌, ◌%◌, ◌<◌, Some, None, Bool, true, false, not, cond, eqb, eq-eqb, ne_eqb, List, refl, sym, ap, ap₂, ◌∙◌, subst, arith}
+use Rattle.std.proofs.Common.{◌≡◌, ◌≢◌, ℕ, ◌*◌, ◌/◌, ◌%◌, ◌<◌, Some, None, Bool, true, false, not, cond, eqb, eq-eqb, ne_eqb, List, refl, ap, ◌∙◌, arith}
 use Rattle.std.specs.declared.option.Option.{Option}
 use Rattle.ghost_links.specs.declared.view.End.{End}
-use Rattle.ghost_links.specs.Layouts.{is_link, turn_word}
-use Rattle.ghost_links.specs.Ends.{EndMap, all_ends, end_count, end_in, idle, is_end, occurrences, rank_of_end, receiving_end, restriction, sending_end}
+use Rattle.ghost_links.specs.Layouts.{turn_word}
+use Rattle.ghost_links.specs.Ends.{all_ends, end_count, end_in, idle, is_end, occurrences, rank_of_end, receiving_end, sending_end}
 use Rattle.ghost_links.specs.Holdings.{HasLink, Holding, LinkTable, after_join, after_split, first_holding, handed_holding, receiver, sender}
 use Rattle.ghost_links.proofs.LayoutLemmas.{end_of_receiver, end_of_sender}
 use Rattle.ghost_links.proofs.MapLemmas.{either_end, end_in_append, end_in_restriction, new_end}

@@ -1,10 +1,10 @@
 -- The sentences of the link rule, from its compact form.
-use Rattle.std.proofs.Common.{◌≡◌, ◌≢◌, ◌⊎◌, ◌↔◌, ℕ, zero, suc, ◌+◌, ◌-◌, ◌*◌, ◌/◌, ◌%◌, ◌<◌, ◌≤◌, ◌^◌, List, [], ◌∷◌, length, Some, None, Bool, true, false, not, cond, eqb, ltb, ◌&&◌, lt-ltb, ne_eqb, refl, sym, ap, ap₂, ◌∙◌, subst, ⊎_elim, inl, inr, arith, suc-mul}
+use Rattle.std.proofs.Common.{◌≡◌, ◌≢◌, ◌↔◌, ℕ, suc, ◌+◌, ◌*◌, ◌/◌, ◌%◌, ◌<◌, ◌≤◌, ◌^◌, List, [], ◌∷◌, length, Some, None, Bool, true, false, not, cond, eqb, ◌&&◌, lt-ltb, ne_eqb, refl, sym, ap, ap₂, ◌∙◌, subst, ⊎_elim, arith, suc-mul}
 use Rattle.std.specs.Prelude.{slice_index, slice_index_or}
 use Rattle.std.specs.declared.option.Option.{Option}
 use Rattle.std.proofs.lemmas.Nat.{div-mul-add, mod-mul-add}
 use Rattle.std.proofs.Math.Nat.{div-add-mod', mul-le-mul_right}
-use mathlib.Core.Option.{some, some-ne-none}
+use mathlib.Core.Option.{some}
 use mathlib.Core.Logic.{dite}
 use native.Mathlib.Decide.{ℕ_discrete}
 use lib.ListN.{get_elem?}
@@ -16,10 +16,10 @@ use Rattle.ghost_links.specs.declared.view.End.{End}
 use Rattle.ghost_links.specs.declared.view.View.{View}
 use Rattle.ghost_links.specs.Layouts.{Layout, first_word, given_room, given_size, is_link, layout_of, packet_size, turn_count, turn_word}
 use Rattle.ghost_links.specs.Scripts.{LinkScript, packet_of, script_over}
-use Rattle.ghost_links.specs.Ends.{EndMap, end_count, end_in, idle, is_end, occurrences, receiving_end, sending_end}
+use Rattle.ghost_links.specs.Ends.{end_count, end_in, idle, is_end, occurrences, receiving_end, sending_end}
 use Rattle.ghost_links.specs.Packets.{PacketWords}
 use Rattle.ghost_links.specs.LinkRule.{HavePacket, IsInOneView, IsLinked, PutsPacket, TableState, total}
-use Rattle.ghost_links.specs.Holdings.{Holding, Posts, Takes, after_load, after_post, after_steps, after_take, has_idle, last_of, last_word, next_number, next_of}
+use Rattle.ghost_links.specs.Holdings.{Holding, Posts, Takes, after_load, after_steps, has_idle, last_of, last_word}
 use Rattle.ghost_links.proofs.LayoutLemmas.{first_of_more, first_word_of, packets_of_link, ranks_of_link, room_of_layout}
 use Rattle.ghost_links.proofs.SeatLemmas.{idle_end}
 use Rattle.ghost_links.proofs.StageLemmas.{end_after_steps}

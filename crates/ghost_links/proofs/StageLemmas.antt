@@ -195,7 +195,7 @@ length_fits link x word size layout h d fits le =
     let is = length_of_first link x word h d.packet d.packet_is d in
     let small = fits d.packet d.packet_is in omega arith
 
-length_resized : (n : ℕ) (l : List ℕ) → length (resized n l) ≡ n
+pub length_resized : (n : ℕ) (l : List ℕ) → length (resized n l) ≡ n
 length_resized n l =
     let a = length-append (take n l) (replicate (n - length l) 0) in
     let b = length-take n l in

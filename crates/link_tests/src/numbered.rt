@@ -1,7 +1,10 @@
-ghost use Rattle.std.specs.Prelude.{◌≡◌, ◌≤◌, ◌<◌, ◌%◌, length};
+ghost use Rattle.std.specs.Prelude.{◌≡◌, ◌≤◌, ◌<◌, IfOk, replicate};
+ghost use Rattle.link_tests.specs.Rounds.{IsNumbered};
 ghost use Rattle.link_tests.specs.Scripts.{packet_at, word_at};
 
-use ghost_links::{LinkId, Packet, Script};
+use ghost_links::{LinkId, LinkSeat, Links, Packet, Script};
+use liszt_base::{NoMemory, PlainLists};
+use std::alloc::Global;
 
 /// A script of `count` packets on each link.
 #[derive(Drop)]
@@ -51,4 +54,27 @@ pub fn is_numbered(p: &Packet, link: LinkId, n: u32) -> bool {
         }
     }
     true
+}
+
+/// The size 7 for each pair of ranks.
+fn sizes_of(alloc: Global, ranks: u32) -> Result<PlainLists<u32>, NoMemory>
+    ensures { IfOk result (λ sizes. sizes ≡ replicate ranks (replicate ranks 7)) }
+{
+    let row = vec![in alloc; 7u32; ranks as usize]?;
+    let mut sizes = PlainLists::new(alloc);
+    for _ in 0..ranks {
+        sizes.push(row.as_slice())?;
+    }
+    Ok(sizes)
+}
+
+/// Links between all ranks with `count` packets on each, and the seat that has all ends.
+pub fn numbered_links(alloc: Global, ranks: u32, count: u32) -> Result<(Links, LinkSeat), NoMemory>
+    requires some_rank { 0 < ranks }
+    requires few_ranks { ranks ≤ 16 }
+    ensures { IfOk result (λ pair. IsNumbered pair.0 ranks count pair.1) }
+{
+    let sizes = sizes_of(alloc, ranks)?;
+    let (links, seat) = Links::make(alloc, ranks, &sizes, &Numbered { count })?;
+    Ok((links, seat))
 }

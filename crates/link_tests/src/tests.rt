@@ -1,18 +1,15 @@
 use crate::exchange::{post_all, take_all};
-use crate::numbered::Numbered;
-use ghost_links::{LinkId, Links, Packet};
-use liszt_base::{NoMemory, PlainLists};
+use crate::numbered::numbered_links;
+use crate::table::{Run, run_ranks};
+use ghost_links::{LinkId, Packet};
+use liszt_base::NoMemory;
 use std::alloc::Global;
 use std::test::Fail;
 use std::thread::{Threads, join_mut};
 
 /// Two threads exchange a thousand packets of 0 to 7 words over one link.
 fn thousand_over_one_link<R: Threads>(rt: &R, alloc: Global) -> Result<(u32, u32), NoMemory> {
-    let mut sizes = PlainLists::new(alloc);
-    sizes.push(&[0u32, 7])?;
-    sizes.push(&[0u32, 0])?;
-    let script = Numbered { count: 1000 };
-    let (links, mut seat) = Links::make(alloc, 2, &sizes, &script)?;
+    let (links, mut seat) = numbered_links(alloc, 2, 1000)?;
     let mut other = links.split(&mut seat, 1);
     let mut sent = Packet::make(alloc, 7)?;
     let mut taken = Packet::make(alloc, 7)?;
@@ -32,5 +29,35 @@ fn thousand_over_one_link<R: Threads>(rt: &R, alloc: Global) -> Result<(u32, u32
 fn a_thousand_packets_come_over_one_link(rt: HostRuntime) -> Result<(), Fail> {
     let (posts, takes) = thousand_over_one_link(&rt, rt.alloc())?;
     assert!(rt; posts == 1000 && takes == 1000);
+    Ok(())
+}
+
+/// Sixteen ranks exchange 64 packets of 0 to 7 words over each link of a full table.
+fn all_links_of_a_full_table<R: Threads + Sync>(rt: &R, alloc: Global) -> Result<bool, NoMemory> {
+    let (links, mut seat) = numbered_links(alloc, 16, 64)?;
+    let run = Run {
+        ranks: 16,
+        rounds: 64,
+    };
+    Ok(run_ranks(rt, alloc, &links, &mut seat, 0, run))
+}
+
+#[test]
+fn sixteen_seats_use_all_links(rt: HostRuntime) -> Result<(), Fail> {
+    assert!(rt; all_links_of_a_full_table(&rt, rt.alloc())?);
+    Ok(())
+}
+
+/// One rank has no link: its table is one word, and its seat has no end.
+fn one_rank_alone(alloc: Global) -> Result<(), NoMemory> {
+    let (links, mut seat) = numbered_links(alloc, 1, 3)?;
+    let other = links.split(&mut seat, 0);
+    links.join(&mut seat, other);
+    Ok(())
+}
+
+#[test]
+fn one_rank_has_no_link(rt: HostRuntime) -> Result<(), Fail> {
+    one_rank_alone(rt.alloc())?;
     Ok(())
 }
