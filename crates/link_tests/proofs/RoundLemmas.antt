@@ -6,10 +6,14 @@ use mathlib.Core.Logic.{dite}
 use native.Mathlib.Decide.{dec_le, ℕ_discrete}
 use Rattle.std.proofs.lemmas.Bool.{ltb-true}
 use Rattle.ghost_links.specs.Layouts.{turn_word}
-use Rattle.ghost_links.specs.Holdings.{ChangedOneEnd, HasLink, Holding, LinkTable, is_idle, link_of, next_of, next_packet, receiver, sender}
+use Rattle.ghost_links.specs.declared.links.PostAnswer.{PostAnswer}
+use Rattle.ghost_links.specs.declared.links.TakeAnswer.{TakeAnswer}
+use Rattle.ghost_links.specs.Packets.{PacketWords}
+use Rattle.ghost_links.specs.Holdings.{ChangedOneEnd, HasLink, Holding, LinkTable, Posts, Takes, is_idle, link_of, next_of, next_packet, posted_count, receiver, sender, taken_count}
+use Rattle.ghost_links.proofs.AnswerLemmas.{post_changes, take_changes}
 use Rattle.ghost_links.proofs.RuleLemmas.{sending_rank}
 use Rattle.link_tests.specs.Scripts.{packet_at, packets_at}
-use Rattle.link_tests.specs.Rounds.{HasScript, IsAt, RankIsAt, all_at, first_ones_at}
+use Rattle.link_tests.specs.Rounds.{HasScript, IsAt, LinkIsAt, RankIsAt, all_at, first_ones_at}
 
 slice_get-at : {A : Type 0} (l : List A) (i : ℕ) (d : A) → i < length l → slice_get l i ≡ Some (slice_index_or l i d)
 slice_get-at [] i d h = absurd (omega arith)
@@ -143,3 +147,29 @@ pub post_next : (t : LinkTable) (count rank b n : ℕ) (words : List ℕ) (h : H
 post_next t count rank b n words h script link r lt is =
     numbered_next t count rank b (sender t rank b) n words h script link
     (at_same (sender t rank b) (first_ones_at n b b) n h (not_before_first n b b (omega arith)) (r.sends b link)) lt is
+
+-- both ends of one link in one seat
+apart_ends : (t : LinkTable) → receiver t 0 1 ≢ sender t 0 1
+apart_ends t e = omega arith
+
+pub link_posted : (t : LinkTable) (count sent taken : ℕ) (words : List ℕ) (answer : PostAnswer) (h k : Holding) → LinkIsAt t count h sent taken
+    → Posts (sender t 0 1) words answer h k → LinkIsAt t count k (sent + posted_count answer) taken
+link_posted t count sent taken words answer h k a p =
+    let c = post_changes (sender t 0 1) words answer h k a.sends.idle p in
+    record {
+      script = script_kept t count (sender t 0 1) (posted_count answer) h k a.script c;
+      link = a.link;
+      sends = at_next (sender t 0 1) sent (posted_count answer) h k a.sends c;
+      takes = at_else (sender t 0 1) (receiver t 0 1) taken (posted_count answer) h k (apart_ends t) a.takes c;
+    }
+
+pub link_taken : (t : LinkTable) (count sent taken : ℕ) (answer : TakeAnswer) (h k : Holding) (old new : PacketWords) → LinkIsAt t count h sent taken
+    → Takes (link_of t 0 1) (receiver t 0 1) answer h k old new → LinkIsAt t count k sent (taken + taken_count answer)
+link_taken t count sent taken answer h k old new a p =
+    let c = take_changes (link_of t 0 1) (receiver t 0 1) answer h k old new a.takes.idle p in
+    record {
+      script = script_kept t count (receiver t 0 1) (taken_count answer) h k a.script c;
+      link = a.link;
+      sends = at_else (receiver t 0 1) (sender t 0 1) sent (taken_count answer) h k (λ e. apart_ends t (sym e)) a.sends c;
+      takes = at_next (receiver t 0 1) taken (taken_count answer) h k a.takes c;
+    }

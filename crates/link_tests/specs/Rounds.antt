@@ -1,5 +1,7 @@
 -- How far a rank of the tests has come: the next numbers of its ends.
 use Rattle.std.specs.Prelude.{◌≡◌, ℕ, ◌+◌, ◌<◌, ◌≤◌, true, cond, ltb, [], slice_index_or}
+use Rattle.std.specs.declared.option.Option.{Option}
+use Rattle.std.specs.declared.option.Option.TheVariants.{None, Some}
 use Rattle.ghost_links.specs.Layouts.{packet_size}
 use Rattle.ghost_links.specs.Holdings.{HasLink, Holding, LinkTable, has_idle, link_of, next_number, receiver, sender}
 use Rattle.link_tests.specs.Scripts.{packets_at}
@@ -40,3 +42,15 @@ pub record IsNumbered (t : LinkTable) (ranks count : ℕ) (h : Holding) : Type 0
   pub sizes : FitSeven t
   pub script : HasScript t count h
   pub ends : RanksStart t h 0
+
+-- The link from rank 0 to rank 1 with both ends in one seat, after so many posts and takes.
+pub record LinkIsAt (t : LinkTable) (count : ℕ) (h : Holding) (sent taken : ℕ) : Type 0 where
+  pub script : HasScript t count h
+  pub link : HasLink t 0 1
+  pub sends : IsAt h (sender t 0 1) sent
+  pub takes : IsAt h (receiver t 0 1) taken
+
+-- 1 where a call answered no turn word, which is where a packet was posted or taken
+abbrev pub done_count : Option ℕ → ℕ
+done_count None = 1
+done_count (Some word) = 0

@@ -1,3 +1,4 @@
+use crate::answers::answers_are_right;
 use crate::exchange::{post_all, take_all};
 use crate::numbered::numbered_links;
 use crate::table::{Run, run_ranks};
@@ -59,5 +60,36 @@ fn one_rank_alone(alloc: Global) -> Result<(), NoMemory> {
 #[test]
 fn one_rank_has_no_link(rt: HostRuntime) -> Result<(), Fail> {
     one_rank_alone(rt.alloc())?;
+    Ok(())
+}
+
+/// Both ends of a link in one seat.
+fn in_one_thread(alloc: Global) -> Result<bool, NoMemory> {
+    let (links, mut seat) = numbered_links(alloc, 2, 3)?;
+    let mut p = Packet::make(alloc, 7)?;
+    Ok(answers_are_right(&links, &mut seat, &mut p))
+}
+
+#[test]
+fn calls_of_one_thread_answer_by_the_turn_word(rt: HostRuntime) -> Result<(), Fail> {
+    assert!(rt; in_one_thread(rt.alloc())?);
+    Ok(())
+}
+
+/// Whether a packet keeps its words when it is cut, and has 0 where it is filled up.
+fn is_cut_and_filled(alloc: Global) -> Result<bool, NoMemory> {
+    let mut p = Packet::make(alloc, 3)?;
+    let empty = p.used() == 0;
+    p.set_used(3);
+    p.set(0, 5);
+    p.set(2, 7);
+    p.set_used(1);
+    p.set_used(3);
+    Ok(empty && p.used() == 3 && p.get(0) == 5 && p.get(1) == 0 && p.get(2) == 0)
+}
+
+#[test]
+fn packets_are_cut_and_filled(rt: HostRuntime) -> Result<(), Fail> {
+    assert!(rt; is_cut_and_filled(rt.alloc())?);
     Ok(())
 }
