@@ -3,29 +3,29 @@ use Rattle.std.proofs.Common.{◌≡◌, ◌≢◌, ℕ, ◌*◌, ◌/◌, ◌%�
 use Rattle.std.specs.declared.option.Option.{Option}
 use Rattle.ghost_links.specs.declared.view.End.{End}
 use Rattle.ghost_links.specs.Layouts.{turn_word}
-use Rattle.ghost_links.specs.Ends.{all_ends, end_count, end_in, idle, is_end, occurrences, rank_of_end, receiving_end, sending_end}
+use Rattle.ghost_links.specs.Ends.{all_ends, end_count, end_in, idle_end, is_end, occurrences, rank_of_end, receiving_end, sending_end}
 use Rattle.ghost_links.specs.Holdings.{HasLink, Holding, LinkTable, after_join, after_split, first_holding, handed_holding, receiver, sender}
 use Rattle.ghost_links.proofs.LayoutLemmas.{end_of_receiver, end_of_sender}
 use Rattle.ghost_links.proofs.MapLemmas.{either_end, end_in_append, end_in_restriction, new_end}
 use Rattle.ghost_links.proofs.RuleLemmas.{pair_is_link, receiving_rank, sending_rank}
 use Rattle.ghost_links.proofs.StepLemmas.{occurrences_of_all}
 
-new_end_there : (ranks x : ℕ) → is_end ranks x ≡ true → end_in (all_ends ranks) x ≡ Some (idle 0 None)
+new_end_there : (ranks x : ℕ) → is_end ranks x ≡ true → end_in (all_ends ranks) x ≡ Some (idle_end 0 None)
 new_end_there ranks x is = go (end_in (all_ends ranks) x) refl (occurrences_of_all ranks x ∙ ap (λ b. cond b 1 0) is)
   where
-    go : (o : Option End) → end_in (all_ends ranks) x ≡ o → end_count o ≡ 1 → end_in (all_ends ranks) x ≡ Some (idle 0 None)
+    go : (o : Option End) → end_in (all_ends ranks) x ≡ o → end_count o ≡ 1 → end_in (all_ends ranks) x ≡ Some (idle_end 0 None)
     go None e one = absurd (omega arith)
     go (Some g) e one = e ∙ ap Some (new_end ranks (2 * (ranks * ranks)) x g e)
 
 pub first_sender : (t : LinkTable) (packets : ℕ → ℕ → List (List ℕ)) (a b : ℕ) → HasLink t a b
-    → end_in (first_holding t packets).ends (sender t a b) ≡ Some (idle 0 None)
+    → end_in (first_holding t packets).ends (sender t a b) ≡ Some (idle_end 0 None)
 first_sender t packets a b h =
     let ranks = t.layout.ranks in
     new_end_there ranks (sender t a b)
     (end_of_sender ranks (turn_word ranks a b) (sender t a b) refl ∙ pair_is_link ranks a b h.from h.to h.apart)
 
 pub first_receiver : (t : LinkTable) (packets : ℕ → ℕ → List (List ℕ)) (a b : ℕ) → HasLink t a b
-    → end_in (first_holding t packets).ends (receiver t a b) ≡ Some (idle 0 None)
+    → end_in (first_holding t packets).ends (receiver t a b) ≡ Some (idle_end 0 None)
 first_receiver t packets a b h =
     let ranks = t.layout.ranks in
     new_end_there ranks (receiver t a b)

@@ -4,7 +4,7 @@ use Rattle.std.specs.declared.option.Option.{Option}
 use mathlib.Core.Logic.{dite}
 use native.Mathlib.Decide.{ℕ_discrete}
 use Rattle.ghost_links.specs.declared.view.End.{End}
-use Rattle.ghost_links.specs.Ends.{EndMap, Each, changed, end_count, end_in, ends_below, idle, is_end, occurrences, restriction}
+use Rattle.ghost_links.specs.Ends.{EndMap, Each, with_change, end_count, end_in, ends_below, idle_end, is_end, occurrences, restriction}
 
 abbrev pub mapped : (End → End) → Option End → Option End
 mapped f None = None
@@ -15,16 +15,16 @@ either_end None b = b
 either_end (Some e) b = Some e
 
 -- one end changed
-pub end_in_changed : (x : ℕ) (f : End → End) (m : EndMap) → end_in (changed x f m) x ≡ mapped f (end_in m x)
+pub end_in_changed : (x : ℕ) (f : End → End) (m : EndMap) → end_in (with_change x f m) x ≡ mapped f (end_in m x)
 end_in_changed x f [] = refl
 end_in_changed x f (p ∷ ps) = go (eqb p.0 x) refl (end_in_changed x f ps)
   where
-    go : (b : Bool) → eqb p.0 x ≡ b → end_in (changed x f ps) x ≡ mapped f (end_in ps x)
-        → end_in (cond b ((p.0, f p.1) ∷ ps) (p ∷ changed x f ps)) x ≡ mapped f (cond b (Some p.1) (end_in ps x))
+    go : (b : Bool) → eqb p.0 x ≡ b → end_in (with_change x f ps) x ≡ mapped f (end_in ps x)
+        → end_in (cond b ((p.0, f p.1) ∷ ps) (p ∷ with_change x f ps)) x ≡ mapped f (cond b (Some p.1) (end_in ps x))
     go true is h = ap (λ b. cond b (Some (f p.1)) (end_in ps x)) is
-    go false is h = ap (λ b. cond b (Some p.1) (end_in (changed x f ps) x)) is ∙ h
+    go false is h = ap (λ b. cond b (Some p.1) (end_in (with_change x f ps) x)) is ∙ h
 
-pub end_in_changed_else : (x y : ℕ) (f : End → End) (m : EndMap) → y ≢ x → end_in (changed x f m) y ≡ end_in m y
+pub end_in_changed_else : (x y : ℕ) (f : End → End) (m : EndMap) → y ≢ x → end_in (with_change x f m) y ≡ end_in m y
 end_in_changed_else x y f [] ne = refl
 end_in_changed_else x y f (p ∷ ps) ne = go (eqb p.0 x) refl (end_in_changed_else x y f ps ne)
   where
@@ -32,29 +32,29 @@ end_in_changed_else x y f (p ∷ ps) ne = go (eqb p.0 x) refl (end_in_changed_el
     other true u w is h = absurd (ne (sym (eqb-true p.0 y h) ∙ eqb-true p.0 x is))
     other false u w is h = refl
 
-    go : (b : Bool) → eqb p.0 x ≡ b → end_in (changed x f ps) y ≡ end_in ps y
-        → end_in (cond b ((p.0, f p.1) ∷ ps) (p ∷ changed x f ps)) y ≡ cond (eqb p.0 y) (Some p.1) (end_in ps y)
+    go : (b : Bool) → eqb p.0 x ≡ b → end_in (with_change x f ps) y ≡ end_in ps y
+        → end_in (cond b ((p.0, f p.1) ∷ ps) (p ∷ with_change x f ps)) y ≡ cond (eqb p.0 y) (Some p.1) (end_in ps y)
     go true is h = other (eqb p.0 y) (Some (f p.1)) (end_in ps y) is refl ∙ sym (other (eqb p.0 y) (Some p.1) (end_in ps y) is refl)
     go false is h = ap (cond (eqb p.0 y) (Some p.1)) h
 
-pub changed_at : (x : ℕ) (f : End → End) (m : EndMap) (e : End) → end_in m x ≡ Some e → end_in (changed x f m) x ≡ Some (f e)
+pub changed_at : (x : ℕ) (f : End → End) (m : EndMap) (e : End) → end_in m x ≡ Some e → end_in (with_change x f m) x ≡ Some (f e)
 changed_at x f m e is = end_in_changed x f m ∙ ap (mapped f) is
 
-pub changed_twice : (x : ℕ) (f g : End → End) (m : EndMap) → changed x g (changed x f m) ≡ changed x (λ e. g (f e)) m
+pub changed_twice : (x : ℕ) (f g : End → End) (m : EndMap) → with_change x g (with_change x f m) ≡ with_change x (λ e. g (f e)) m
 changed_twice x f g [] = refl
 changed_twice x f g (p ∷ ps) = go (eqb p.0 x) refl (changed_twice x f g ps)
   where
-    go : (b : Bool) → eqb p.0 x ≡ b → changed x g (changed x f ps) ≡ changed x (λ e. g (f e)) ps
-        → changed x g (cond b ((p.0, f p.1) ∷ ps) (p ∷ changed x f ps)) ≡ cond b ((p.0, g (f p.1)) ∷ ps) (p ∷ changed x (λ e. g (f e)) ps)
-    go true is h = ap (λ b. cond b ((p.0, g (f p.1)) ∷ ps) ((p.0, f p.1) ∷ changed x g ps)) is
-    go false is h = ap (λ b. cond b ((p.0, g p.1) ∷ changed x f ps) (p ∷ changed x g (changed x f ps))) is ∙ ap (λ l. p ∷ l) h
+    go : (b : Bool) → eqb p.0 x ≡ b → with_change x g (with_change x f ps) ≡ with_change x (λ e. g (f e)) ps
+        → with_change x g (cond b ((p.0, f p.1) ∷ ps) (p ∷ with_change x f ps)) ≡ cond b ((p.0, g (f p.1)) ∷ ps) (p ∷ with_change x (λ e. g (f e)) ps)
+    go true is h = ap (λ b. cond b ((p.0, g (f p.1)) ∷ ps) ((p.0, f p.1) ∷ with_change x g ps)) is
+    go false is h = ap (λ b. cond b ((p.0, g p.1) ∷ with_change x f ps) (p ∷ with_change x g (with_change x f ps))) is ∙ ap (λ l. p ∷ l) h
 
-pub changed_same : (x : ℕ) (f g : End → End) (m : EndMap) (e : End) → end_in m x ≡ Some e → f e ≡ g e → changed x f m ≡ changed x g m
+pub changed_same : (x : ℕ) (f g : End → End) (m : EndMap) (e : End) → end_in m x ≡ Some e → f e ≡ g e → with_change x f m ≡ with_change x g m
 changed_same x f g [] e is same = refl
 changed_same x f g (p ∷ ps) e is same = go (eqb p.0 x) is (λ h. changed_same x f g ps e h same)
   where
-    go : (b : Bool) → cond b (Some p.1) (end_in ps x) ≡ Some e → (end_in ps x ≡ Some e → changed x f ps ≡ changed x g ps)
-        → cond b ((p.0, f p.1) ∷ ps) (p ∷ changed x f ps) ≡ cond b ((p.0, g p.1) ∷ ps) (p ∷ changed x g ps)
+    go : (b : Bool) → cond b (Some p.1) (end_in ps x) ≡ Some e → (end_in ps x ≡ Some e → with_change x f ps ≡ with_change x g ps)
+        → cond b ((p.0, f p.1) ∷ ps) (p ∷ with_change x f ps) ≡ cond b ((p.0, g p.1) ∷ ps) (p ∷ with_change x g ps)
     go true h r =
         let here : p.1 ≡ e = cc in
         ap (λ u. (p.0, u) ∷ ps) (ap f here ∙ (same ∙ sym (ap g here)))
@@ -64,16 +64,16 @@ end_count_mapped : (f : End → End) (o : Option End) → end_count (mapped f o)
 end_count_mapped f None = refl
 end_count_mapped f (Some e) = refl
 
-pub occurrences_in_changed : (x y : ℕ) (f : End → End) (m : EndMap) → occurrences y (changed x f m) ≡ occurrences y m
+pub occurrences_in_changed : (x y : ℕ) (f : End → End) (m : EndMap) → occurrences y (with_change x f m) ≡ occurrences y m
 occurrences_in_changed x y f m = dite (ℕ_discrete y x)
-    (λ is. subst (λ z. occurrences z (changed x f m) ≡ occurrences z m) (sym is) (ap end_count (end_in_changed x f m) ∙ end_count_mapped f (end_in m x)))
+    (λ is. subst (λ z. occurrences z (with_change x f m) ≡ occurrences z m) (sym is) (ap end_count (end_in_changed x f m) ∙ end_count_mapped f (end_in m x)))
     (λ ne. ap end_count (end_in_changed_else x y f m ne))
 
 pub each_changed : (P : ℕ → End → Type 0) (x : ℕ) (f : End → End) (m : EndMap) (e : End) → end_in m x ≡ Some e → P x (f e)
-    → ((y : ℕ) (g : End) → y ≢ x → end_in m y ≡ Some g → P y g) → Each P (changed x f m)
+    → ((y : ℕ) (g : End) → y ≢ x → end_in m y ≡ Some g → P y g) → Each P (with_change x f m)
 each_changed P x f m e is mine others y g q = dite (ℕ_discrete y x)
     (λ same.
-    let there : end_in (changed x f m) x ≡ Some g = subst (λ z. end_in (changed x f m) z ≡ Some g) same q in
+    let there : end_in (with_change x f m) x ≡ Some g = subst (λ z. end_in (with_change x f m) z ≡ Some g) same q in
     let here = changed_at x f m e is in
     let equal : f e ≡ g = cc in
     subst (λ z. P z g) (sym same) (subst (P x) equal mine))
@@ -154,16 +154,16 @@ pub occurrences_of_end : (m : EndMap) (x : ℕ) (e : End) → end_in m x ≡ Som
 occurrences_of_end m x e q = ap end_count q
 
 -- the ends of a new table
-pub new_end : (ranks n x : ℕ) (e : End) → end_in (ends_below ranks n) x ≡ Some e → e ≡ idle 0 None
+pub new_end : (ranks n x : ℕ) (e : End) → end_in (ends_below ranks n) x ≡ Some e → e ≡ idle_end 0 None
 new_end ranks zero x e q = absurd cc
 new_end ranks (suc n) x e q = go (is_end ranks n) (eqb n x) refl q (new_end ranks n x e)
   where
-    go : (b c : Bool) → eqb n x ≡ c → end_in (cond b ((n, idle 0 None) ∷ ends_below ranks n) (ends_below ranks n)) x ≡ Some e
-        → (end_in (ends_below ranks n) x ≡ Some e → e ≡ idle 0 None) → e ≡ idle 0 None
+    go : (b c : Bool) → eqb n x ≡ c → end_in (cond b ((n, idle_end 0 None) ∷ ends_below ranks n) (ends_below ranks n)) x ≡ Some e
+        → (end_in (ends_below ranks n) x ≡ Some e → e ≡ idle_end 0 None) → e ≡ idle_end 0 None
     go true true is h r =
-        let here : cond true (Some (idle 0 None)) (end_in (ends_below ranks n) x) ≡ Some e = sym (ap (λ c. cond c (Some (idle 0 None)) (end_in (ends_below ranks n) x)) is) ∙ h in
-        let same : idle 0 None ≡ e = cc in sym same
-    go true false is h r = r (sym (ap (λ c. cond c (Some (idle 0 None)) (end_in (ends_below ranks n) x)) is) ∙ h)
+        let here : cond true (Some (idle_end 0 None)) (end_in (ends_below ranks n) x) ≡ Some e = sym (ap (λ c. cond c (Some (idle_end 0 None)) (end_in (ends_below ranks n) x)) is) ∙ h in
+        let same : idle_end 0 None ≡ e = cc in sym same
+    go true false is h r = r (sym (ap (λ c. cond c (Some (idle_end 0 None)) (end_in (ends_below ranks n) x)) is) ∙ h)
     go false c is h r = r h
 
 pub no_new_end : (ranks n x : ℕ) → n ≤ x → occurrences x (ends_below ranks n) ≡ 0
@@ -171,22 +171,22 @@ no_new_end ranks zero x h = refl
 no_new_end ranks (suc n) x h = go (is_end ranks n) (eqb n x) refl (no_new_end ranks n x (omega arith))
   where
     go : (b c : Bool) → eqb n x ≡ c → occurrences x (ends_below ranks n) ≡ 0
-        → occurrences x (cond b ((n, idle 0 None) ∷ ends_below ranks n) (ends_below ranks n)) ≡ 0
+        → occurrences x (cond b ((n, idle_end 0 None) ∷ ends_below ranks n) (ends_below ranks n)) ≡ 0
     go true true is r = let same : n ≡ x = eqb-true n x is in absurd (omega arith)
-    go true false is r = ap (λ c. end_count (cond c (Some (idle 0 None)) (end_in (ends_below ranks n) x))) is ∙ r
+    go true false is r = ap (λ c. end_count (cond c (Some (idle_end 0 None)) (end_in (ends_below ranks n) x))) is ∙ r
     go false c is r = r
 
 pub occurrences_of_new : (ranks n x : ℕ) → x < n → occurrences x (ends_below ranks n) ≡ cond (is_end ranks x) 1 0
 occurrences_of_new ranks zero x h = absurd (omega arith)
 occurrences_of_new ranks (suc n) x h = dite (ℕ_discrete n x)
-    (λ same. subst (λ y. occurrences x (cond (is_end ranks y) ((y, idle 0 None) ∷ ends_below ranks y) (ends_below ranks y)) ≡ cond (is_end ranks x) 1 0) (sym same) (here (is_end ranks x)))
+    (λ same. subst (λ y. occurrences x (cond (is_end ranks y) ((y, idle_end 0 None) ∷ ends_below ranks y) (ends_below ranks y)) ≡ cond (is_end ranks x) 1 0) (sym same) (here (is_end ranks x)))
     (λ ne. less (is_end ranks n) ne (occurrences_of_new ranks n x (omega arith)))
   where
-    here : (b : Bool) → occurrences x (cond b ((x, idle 0 None) ∷ ends_below ranks x) (ends_below ranks x)) ≡ cond b 1 0
-    here true = ap (λ c. end_count (cond c (Some (idle 0 None)) (end_in (ends_below ranks x) x))) (eq-eqb x x refl)
+    here : (b : Bool) → occurrences x (cond b ((x, idle_end 0 None) ∷ ends_below ranks x) (ends_below ranks x)) ≡ cond b 1 0
+    here true = ap (λ c. end_count (cond c (Some (idle_end 0 None)) (end_in (ends_below ranks x) x))) (eq-eqb x x refl)
     here false = no_new_end ranks x x (omega arith)
 
     less : (b : Bool) → n ≢ x → occurrences x (ends_below ranks n) ≡ cond (is_end ranks x) 1 0
-        → occurrences x (cond b ((n, idle 0 None) ∷ ends_below ranks n) (ends_below ranks n)) ≡ cond (is_end ranks x) 1 0
-    less true ne r = ap (λ c. end_count (cond c (Some (idle 0 None)) (end_in (ends_below ranks n) x))) (ne_eqb n x ne) ∙ r
+        → occurrences x (cond b ((n, idle_end 0 None) ∷ ends_below ranks n) (ends_below ranks n)) ≡ cond (is_end ranks x) 1 0
+    less true ne r = ap (λ c. end_count (cond c (Some (idle_end 0 None)) (end_in (ends_below ranks n) x))) (ne_eqb n x ne) ∙ r
     less false ne r = r

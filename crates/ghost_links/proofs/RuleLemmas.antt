@@ -16,12 +16,12 @@ use Rattle.ghost_links.specs.declared.view.End.{End}
 use Rattle.ghost_links.specs.declared.view.View.{View}
 use Rattle.ghost_links.specs.Layouts.{Layout, first_word, given_room, given_size, is_link, layout_of, packet_size, turn_count, turn_word}
 use Rattle.ghost_links.specs.Scripts.{LinkScript, packet_of, script_over}
-use Rattle.ghost_links.specs.Ends.{end_count, end_in, idle, is_end, occurrences, receiving_end, sending_end}
+use Rattle.ghost_links.specs.Ends.{end_count, end_in, idle_end, is_end, occurrences, receiving_end, sending_end}
 use Rattle.ghost_links.specs.Packets.{PacketWords}
 use Rattle.ghost_links.specs.LinkRule.{HavePacket, IsInOneView, IsLinked, PutsPacket, TableState, total}
 use Rattle.ghost_links.specs.Holdings.{Holding, Posts, Takes, after_load, after_steps, has_idle, last_of, last_word}
 use Rattle.ghost_links.proofs.LayoutLemmas.{first_of_more, first_word_of, packets_of_link, ranks_of_link, room_of_layout}
-use Rattle.ghost_links.proofs.SeatLemmas.{idle_end}
+use Rattle.ghost_links.proofs.SeatLemmas.{idle_end_of}
 use Rattle.ghost_links.proofs.StageLemmas.{end_after_steps}
 use Rattle.ghost_links.proofs.StepLemmas.{end_once}
 
@@ -117,10 +117,10 @@ busy_sender layout s r j link v e here at_x b =
 last_after_steps : (x n : ℕ) (f : End → End) (h k : Holding) → has_idle h x ≡ true → k ≡ after_steps x f n h → (e : End) × (end_in h.ends x ≡ Some e)
     × (last_word k x ≡ (f e).last)
 last_after_steps x n f h k has_end a =
-    let e = idle_end (end_in h.ends x) has_end in (e.0, e.1, ap last_of (end_after_steps x n f h k e.0 e.1 a))
+    let e = idle_end_of (end_in h.ends x) has_end in (e.0, e.1, ap last_of (end_after_steps x n f h k e.0 e.1 a))
 
 last_after_load : (x word : ℕ) (h k : Holding) → has_idle h x ≡ true → k ≡ after_load x word h → last_word k x ≡ Some word
-last_after_load x word h k has_end a = (last_after_steps x 1 (λ e. idle e.next (Some word)) h k has_end a).2
+last_after_load x word h k has_end a = (last_after_steps x 1 (λ e. idle_end e.next (Some word)) h k has_end a).2
 
 same_word : {o : Option ℕ} {m n : ℕ} → o ≡ Some m → o ≡ Some n → m ≡ n
 same_word e f = cc
@@ -128,7 +128,7 @@ same_word e f = cc
 pub post_answer : (x : ℕ) (packet : List ℕ) (answer : PostAnswer) (h k : Holding) → has_idle h x ≡ true → Posts x packet answer h k → (word : ℕ)
     → last_word k x ≡ Some word → (answer ≡ PostNotYet word) ↔ (word % 2 ≡ 1)
 post_answer x packet Posted h k has_end p word last =
-    let l = last_after_steps x (length packet + 3) (λ e. idle (e.next + 1) (Some (2 * e.next))) h k has_end p in
+    let l = last_after_steps x (length packet + 3) (λ e. idle_end (e.next + 1) (Some (2 * e.next))) h k has_end p in
     let even : word ≡ 2 * l.0.next = same_word last l.2 in
     ((λ e. absurd cc), (λ e. absurd (omega arith)))
 post_answer x packet (PostNotYet found) h k has_end p word last =
@@ -142,7 +142,7 @@ post_step x packet word h k has_end p = (last_after_load x word h k has_end p.2,
 pub take_answer : (link x : ℕ) (answer : TakeAnswer) (h k : Holding) (old new : PacketWords) → has_idle h x ≡ true → Takes link x answer h k old new
     → (word : ℕ) → last_word k x ≡ Some word → (answer ≡ TakeNotYet word) ↔ (word % 2 ≡ 0)
 take_answer link x Taken h k old new has_end p word last =
-    let l = last_after_steps x (length new.words + 3) (λ e. idle (e.next + 1) (Some (2 * e.next + 1))) h k has_end p.2 in
+    let l = last_after_steps x (length new.words + 3) (λ e. idle_end (e.next + 1) (Some (2 * e.next + 1))) h k has_end p.2 in
     let odd : word ≡ 2 * l.0.next + 1 = same_word last l.2 in
     ((λ e. absurd cc), (λ e. absurd (omega arith)))
 take_answer link x (TakeNotYet found) h k old new has_end p word last =

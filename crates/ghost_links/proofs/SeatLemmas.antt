@@ -47,21 +47,21 @@ called v {key} {l} {t} {u} {z} {h} {words} e f g inv seat = record {
   same = same_layout v e f g ∙ sym inv.1;
 }
 
-pub idle_end : (o : Option End) → is_idle o ≡ true → (e : End) × (o ≡ Some e) × (e.busy ≡ false)
-idle_end None h = absurd cc
-idle_end (Some e) h = (e, refl, not_busy e.busy h)
+pub idle_end_of : (o : Option End) → is_idle o ≡ true → (e : End) × (o ≡ Some e) × (e.busy ≡ false)
+idle_end_of None h = absurd cc
+idle_end_of (Some e) h = (e, refl, not_busy e.busy h)
   where
     not_busy : (b : Bool) → not b ≡ true → b ≡ false
     not_busy true q = absurd cc
     not_busy false q = refl
 
-pub busy_end : (o : Option End) → busy_of o ≡ true → (e : End) × (o ≡ Some e) × (e.busy ≡ true)
-busy_end None h = absurd cc
-busy_end (Some e) h = (e, refl, h)
+pub busy_end_of : (o : Option End) → busy_of o ≡ true → (e : End) × (o ≡ Some e) × (e.busy ≡ true)
+busy_end_of None h = absurd cc
+busy_end_of (Some e) h = (e, refl, h)
 
-pub putting_end : (o : Option End) (n : ℕ) → put_of o ≡ Some n → (e : End) × (o ≡ Some e) × (e.busy ≡ true) × (e.put ≡ n)
-putting_end None n h = absurd cc
-putting_end (Some e) n h = go e.busy refl h
+pub putting_end_of : (o : Option End) (n : ℕ) → put_of o ≡ Some n → (e : End) × (o ≡ Some e) × (e.busy ≡ true) × (e.put ≡ n)
+putting_end_of None n h = absurd cc
+putting_end_of (Some e) n h = go e.busy refl h
   where
     go : (b : Bool) → e.busy ≡ b → cond b (Some e.put) None ≡ Some n → (g : End) × (Some e ≡ Some g) × (g.busy ≡ true) × (g.put ≡ n)
     go true is q = (e, refl, is, cc)
@@ -186,7 +186,7 @@ module _ (me : SeatState) {key : Layout} {t : TableId} {z : LinkTable} {h : Hold
       → Allows (FollowsRule key) slots id me link (λ k. k) (SenderLoads (step slots link 0 0 none) me)
   load_to_post_keeps has_end has_packet =
       let x = sending_end link in
-      let e = idle_end (end_in me.0.ends x) (subst (λ k. has_idle k x ≡ true) (sym c.view_is) has_end) in
+      let e = idle_end_of (end_in me.0.ends x) (subst (λ k. has_idle k x ≡ true) (sym c.view_is) has_end) in
       let p = some_value (next_packet (holding t me.0) link x) (subst (λ k. is_some (next_packet k link x) ≡ true) (sym c.view_is) has_packet) in
       sender_load_keeps key slots id link me e.0 p.0 c.seat e.1 (next_is (holding t me.0) link x e.0 p.0 e.1 p.1)
 
@@ -194,7 +194,7 @@ module _ (me : SeatState) {key : Layout} {t : TableId} {z : LinkTable} {h : Hold
       → Allows (FollowsRule key) slots id me link (λ k. k) (ReceiverLoads (step slots link 0 0 none) me)
   load_to_take_keeps has_end =
       let x = receiving_end link in
-      let e = idle_end (end_in me.0.ends x) (subst (λ k. has_idle k x ≡ true) (sym c.view_is) has_end) in
+      let e = idle_end_of (end_in me.0.ends x) (subst (λ k. has_idle k x ≡ true) (sym c.view_is) has_end) in
       receiver_load_keeps key slots id link me e.0 c.seat (link_is_of_key me.0 c link is) e.1
 
   pub store_data_keeps : (place word : ℕ) → words_put h (sending_end link) ≡ Some place → IsDataWord h link (sending_end link) place word
@@ -202,7 +202,7 @@ module _ (me : SeatState) {key : Layout} {t : TableId} {z : LinkTable} {h : Hold
       (λ _. StoresData link (step slots (first_word key link + place) word 0 none) me word)
   store_data_keeps place word has_put d =
       let x = sending_end link in
-      let e = putting_end (end_in me.0.ends x) place (subst (λ k. words_put k x ≡ Some place) (sym c.view_is) has_put) in
+      let e = putting_end_of (end_in me.0.ends x) place (subst (λ k. words_put k x ≡ Some place) (sym c.view_is) has_put) in
       let packet : next_packet (holding t me.0) link x ≡ Some d.packet = subst (λ k. next_packet k link x ≡ Some d.packet) (sym c.view_is) d.packet_is in
       let here = slice_get-below (area d.packet) place word d.word_is in
       let word_is : word ≡ slice_index (area d.packet) place = slice_get-index (area d.packet) place word d.word_is in
@@ -217,7 +217,7 @@ module _ (me : SeatState) {key : Layout} {t : TableId} {z : LinkTable} {h : Hold
       (LoadsData link place (step slots (first_word key link + place) 0 0 none) me)
   load_data_keeps place has_end p =
       let x = receiving_end link in
-      let e = busy_end (end_in me.0.ends x) (subst (λ k. is_busy k x ≡ true) (sym c.view_is) has_end) in
+      let e = busy_end_of (end_in me.0.ends x) (subst (λ k. is_busy k x ≡ true) (sym c.view_is) has_end) in
       let packet : next_packet (holding t me.0) link x ≡ Some p.packet = subst (λ k. next_packet k link x ≡ Some p.packet) (sym c.view_is) p.packet_is in
       data_load_keeps key slots id link place me e.0 c.layout_holds c.seat (link_is_of_key me.0 c link is) e.1 e.2
       (λ q is_q. subst (λ l. place < length (area l)) (same_value (next_is (holding t me.0) link x e.0 p.packet e.1 packet) is_q) p.place_is)
@@ -228,7 +228,7 @@ module _ (me : SeatState) {key : Layout} {t : TableId} {z : LinkTable} {h : Hold
       → found ≡ slice_index (area packet) place) → IsDataWord h link (receiving_end link) place found
   loaded_word place found has_end p told =
       let x = receiving_end link in
-      let e = busy_end (end_in me.0.ends x) (subst (λ k. is_busy k x ≡ true) (sym c.view_is) has_end) in
+      let e = busy_end_of (end_in me.0.ends x) (subst (λ k. is_busy k x ≡ true) (sym c.view_is) has_end) in
       let packet : next_packet (holding t me.0) link x ≡ Some p.packet = subst (λ k. next_packet k link x ≡ Some p.packet) (sym c.view_is) p.packet_is in
       record {
         packet = p.packet;
@@ -240,7 +240,7 @@ module _ (me : SeatState) {key : Layout} {t : TableId} {z : LinkTable} {h : Hold
       → Allows (FollowsRule key) slots id me link (λ _. turn) (λ _. SenderStores (step slots link turn 0 none) me turn)
   store_posted_keeps turn d turn_is =
       let x = sending_end link in
-      let e = putting_end (end_in me.0.ends x) (length (area d.packet)) (subst (λ k. words_put k x ≡ Some (length (area d.packet))) (sym c.view_is) d.put_is) in
+      let e = putting_end_of (end_in me.0.ends x) (length (area d.packet)) (subst (λ k. words_put k x ≡ Some (length (area d.packet))) (sym c.view_is) d.put_is) in
       let packet : next_packet (holding t me.0) link x ≡ Some d.packet = subst (λ k. next_packet k link x ≡ Some d.packet) (sym c.view_is) d.packet_is in
       let turn_is' : turn ≡ 2 * next_number (holding t me.0) x + 1 = subst (λ k. turn ≡ 2 * next_number k x + 1) (sym c.view_is) turn_is in
       let turn_is'' : turn ≡ 2 * e.0.next + 1 = turn_is' ∙ ap (λ o. 2 * next_of o + 1) e.1 in
@@ -251,7 +251,7 @@ module _ (me : SeatState) {key : Layout} {t : TableId} {z : LinkTable} {h : Hold
       → Allows (FollowsRule key) slots id me link (λ _. turn) (λ _. ReceiverStores (step slots link turn 0 none) me turn)
   store_taken_keeps turn has_end turn_is =
       let x = receiving_end link in
-      let e = busy_end (end_in me.0.ends x) (subst (λ k. is_busy k x ≡ true) (sym c.view_is) has_end) in
+      let e = busy_end_of (end_in me.0.ends x) (subst (λ k. is_busy k x ≡ true) (sym c.view_is) has_end) in
       let turn_is' : turn ≡ 2 * next_number (holding t me.0) x + 2 = subst (λ k. turn ≡ 2 * next_number k x + 2) (sym c.view_is) turn_is in
       let turn_is'' : turn ≡ 2 * e.0.next + 2 = turn_is' ∙ ap (λ o. 2 * next_of o + 2) e.1 in
       clear_store_keeps key slots id link turn me e.0 c.layout_holds c.seat (link_is_of_key me.0 c link is) e.1 e.2 turn_is''

@@ -9,13 +9,13 @@ use Rattle.ghost_links.specs.declared.links.PostAnswer.TheVariants.{Posted, NotY
 use Rattle.ghost_links.specs.declared.links.TakeAnswer.TheVariants.{Taken, NotYet as TakeNotYet}
 use Rattle.ghost_links.specs.Layouts.{Layout, packet_size}
 use Rattle.ghost_links.specs.Scripts.{LinkScript, area, packet_of}
-use Rattle.ghost_links.specs.Ends.{EndMap, busy, changed, end_in, idle}
-use Rattle.ghost_links.specs.Packets.{PacketWords, resized}
-use Rattle.ghost_links.specs.Views.{finished, is_even, one_more_put, receiver_loaded, sender_loaded}
+use Rattle.ghost_links.specs.Ends.{EndMap, busy_end, with_change, end_in, idle_end}
+use Rattle.ghost_links.specs.Packets.{PacketWords, resized_words}
+use Rattle.ghost_links.specs.Views.{after_turn_store, is_even, after_data_store, after_receiver_load, after_sender_load}
 use Rattle.ghost_links.specs.Holdings.{Holding, LinkTable, Posts, Takes, after_steps, has_idle, next_number, next_of, next_packet}
 use Rattle.ghost_links.specs.Internal.Stages.{FindsTurn, HasDataPlace, HasPut, IsDataWord, NextFits, after_loads, after_puts, busy_of, is_busy, is_some, put_of, words_put}
 use Rattle.ghost_links.proofs.MapLemmas.{changed_at, changed_same, changed_twice}
-use Rattle.ghost_links.proofs.SeatLemmas.{idle_end, putting_end, slice_get-index, some_value}
+use Rattle.ghost_links.proofs.SeatLemmas.{idle_end_of, putting_end_of, slice_get-index, some_value}
 
 -- a holding by its parts
 seat_of : LinkTable → LinkScript → EndMap → ℕ → Holding
@@ -27,7 +27,7 @@ pub steps_twice : (x n m : ℕ) (f g : End → End) (h j k : Holding) → j ≡ 
 steps_twice x n m f g h j k a b =
     b ∙ ap (after_steps x g m) a
     ∙ ap (λ l. record { links = h.links; script = h.script; ends = l; steps = h.steps + n + m }) (changed_twice x f g h.ends)
-    ∙ ap (λ i. record { links = h.links; script = h.script; ends = changed x (λ e. g (f e)) h.ends; steps = i }) sums where
+    ∙ ap (λ i. record { links = h.links; script = h.script; ends = with_change x (λ e. g (f e)) h.ends; steps = i }) sums where
       sums : h.steps + n + m ≡ h.steps + (n + m)
       sums = omega arith
 
@@ -36,7 +36,7 @@ pub steps_same : (x n m : ℕ) (f g : End → End) (h k : Holding) (e : End) →
     → k ≡ after_steps x f n h → k ≡ after_steps x g m h
 steps_same x n m f g h k e at_x same count a =
     a ∙ ap (λ l. record { links = h.links; script = h.script; ends = l; steps = h.steps + n }) (changed_same x f g h.ends e at_x same)
-    ∙ ap (λ i. record { links = h.links; script = h.script; ends = changed x g h.ends; steps = h.steps + i }) count
+    ∙ ap (λ i. record { links = h.links; script = h.script; ends = with_change x g h.ends; steps = h.steps + i }) count
 
 pub end_after_steps : (x n : ℕ) (f : End → End) (h k : Holding) (e : End) → end_in h.ends x ≡ Some e → k ≡ after_steps x f n h
     → end_in k.ends x ≡ Some (f e)
@@ -54,22 +54,22 @@ packet_after_steps link x n f h k e at_x same a =
     ∙ sym (ap (λ o. packet_of h.script link (next_of o)) at_x)
 
 -- data stores
-pub first_put : (x : ℕ) (h k : Holding) → words_put h x ≡ Some 0 → k ≡ after_steps x one_more_put 1 h → k ≡ after_puts x 1 h
+pub first_put : (x : ℕ) (h k : Holding) → words_put h x ≡ Some 0 → k ≡ after_steps x after_data_store 1 h → k ≡ after_puts x 1 h
 first_put x h k none_put a =
-    let e = putting_end (end_in h.ends x) 0 none_put in
+    let e = putting_end_of (end_in h.ends x) 0 none_put in
     let zero_put : e.0.put ≡ 0 = e.3 in
-    steps_same x 1 1 one_more_put (λ g. busy g.next 1 g.last) h k e.0 e.1 (ap (λ n. busy e.0.next (n + 1) e.0.last) zero_put) refl a
+    steps_same x 1 1 after_data_store (λ g. busy_end g.next 1 g.last) h k e.0 e.1 (ap (λ n. busy_end e.0.next (n + 1) e.0.last) zero_put) refl a
 
-pub more_puts : (x n : ℕ) (h j k : Holding) → j ≡ after_puts x n h → k ≡ after_steps x one_more_put 1 j → k ≡ after_puts x (n + 1) h
-more_puts x n h j k a b = steps_twice x n 1 (λ e. busy e.next n e.last) one_more_put h j k a b
+pub more_puts : (x n : ℕ) (h j k : Holding) → j ≡ after_puts x n h → k ≡ after_steps x after_data_store 1 j → k ≡ after_puts x (n + 1) h
+more_puts x n h j k a b = steps_twice x n 1 (λ e. busy_end e.next n e.last) after_data_store h j k a b
 
 pub put_after_puts : (x n : ℕ) (h j : Holding) → words_put h x ≡ Some 0 → j ≡ after_puts x n h → words_put j x ≡ Some n
 put_after_puts x n h j none_put a =
-    let e = putting_end (end_in h.ends x) 0 none_put in ap put_of (end_after_steps x n (λ g. busy g.next n g.last) h j e.0 e.1 a)
+    let e = putting_end_of (end_in h.ends x) 0 none_put in ap put_of (end_after_steps x n (λ g. busy_end g.next n g.last) h j e.0 e.1 a)
 
 pub packet_after_puts : (link x n : ℕ) (h j : Holding) → words_put h x ≡ Some 0 → j ≡ after_puts x n h → next_packet j link x ≡ next_packet h link x
 packet_after_puts link x n h j none_put a =
-    let e = putting_end (end_in h.ends x) 0 none_put in packet_after_steps link x n (λ g. busy g.next n g.last) h j e.0 e.1 refl a
+    let e = putting_end_of (end_in h.ends x) 0 none_put in packet_after_steps link x n (λ g. busy_end g.next n g.last) h j e.0 e.1 refl a
 
 pub word_after_puts : (link x i word : ℕ) (packet : List ℕ) (h j : Holding) → words_put h x ≡ Some 0 → next_packet h link x ≡ Some packet
     → j ≡ after_puts x (i + 1) h → slice_get packet i ≡ Some word → IsDataWord j link x (i + 1) word
@@ -81,11 +81,11 @@ word_after_puts link x i word packet h j none_put p a w = record {
 
 -- a post that is not possible yet, and one that is
 pub not_posted : (x word : ℕ) (packet : List ℕ) (h k : Holding) → (word ≡ 2 * next_number h x) ⊎ (word + 1 ≡ 2 * next_number h x) → word % 2 ≡ 1
-    → k ≡ after_steps x (sender_loaded word) 1 h → Posts x packet (PostNotYet word) h k
+    → k ≡ after_steps x (after_sender_load word) 1 h → Posts x packet (PostNotYet word) h k
 not_posted x word packet h k found odd a = (
   odd,
   ⊎_elim (λ e. absurd (omega arith)) (λ e. e) found,
-  a ∙ ap (λ b. after_steps x (λ e. cond b (busy e.next 0 (Some word)) (idle e.next (Some word))) 1 h) (not_even word odd),
+  a ∙ ap (λ b. after_steps x (λ e. cond b (busy_end e.next 0 (Some word)) (idle_end e.next (Some word))) 1 h) (not_even word odd),
 )
   where
     not_even : (n : ℕ) → n % 2 ≡ 1 → is_even n ≡ false
@@ -99,31 +99,31 @@ record Ready (x link word : ℕ) (packet : List ℕ) (h k : Holding) : Type 0 wh
   e : End
   end_is : end_in h.ends x ≡ Some e
   word_is : word ≡ 2 * e.next
-  ready : k ≡ after_steps x (λ g. busy g.next 0 (Some word)) 1 h
+  ready : k ≡ after_steps x (λ g. busy_end g.next 0 (Some word)) 1 h
 
 ready_to_post : (x link word : ℕ) (packet : List ℕ) (h k : Holding) → has_idle h x ≡ true → (word ≡ 2 * next_number h x) ⊎ (word + 1 ≡ 2 * next_number h x)
-    → word % 2 ≢ 1 → k ≡ after_steps x (sender_loaded word) 1 h → Ready x link word packet h k
+    → word % 2 ≢ 1 → k ≡ after_steps x (after_sender_load word) 1 h → Ready x link word packet h k
 ready_to_post x link word packet h k has_end found even a =
-    let e = idle_end (end_in h.ends x) has_end in
+    let e = idle_end_of (end_in h.ends x) has_end in
     let word_is : word ≡ 2 * next_number h x = ⊎_elim (λ t. t) (λ t. absurd (omega arith)) found in
     record {
       e = e.0;
       end_is = e.1;
       word_is = word_is ∙ ap (λ o. 2 * next_of o) e.1;
-      ready = a ∙ ap (λ b. after_steps x (λ g. cond b (busy g.next 0 (Some word)) (idle g.next (Some word))) 1 h) (even_of_not_odd word even);
+      ready = a ∙ ap (λ b. after_steps x (λ g. cond b (busy_end g.next 0 (Some word)) (idle_end g.next (Some word))) 1 h) (even_of_not_odd word even);
     }
 
 pub put_before_post : (x link word : ℕ) (packet : List ℕ) (h k : Holding) → has_idle h x ≡ true → (word ≡ 2 * next_number h x) ⊎ (word + 1 ≡ 2 * next_number h x)
-    → word % 2 ≢ 1 → k ≡ after_steps x (sender_loaded word) 1 h → words_put k x ≡ Some 0
+    → word % 2 ≢ 1 → k ≡ after_steps x (after_sender_load word) 1 h → words_put k x ≡ Some 0
 put_before_post x link word packet h k has_end found even a =
     let r = ready_to_post x link word packet h k has_end found even a in
-    ap put_of (end_after_steps x 1 (λ g. busy g.next 0 (Some word)) h k r.e r.end_is r.ready)
+    ap put_of (end_after_steps x 1 (λ g. busy_end g.next 0 (Some word)) h k r.e r.end_is r.ready)
 
 pub packet_before_post : (x link word : ℕ) (packet : List ℕ) (h k : Holding) → has_idle h x ≡ true → (word ≡ 2 * next_number h x) ⊎ (word + 1 ≡ 2 * next_number h x)
-    → word % 2 ≢ 1 → k ≡ after_steps x (sender_loaded word) 1 h → next_packet k link x ≡ next_packet h link x
+    → word % 2 ≢ 1 → k ≡ after_steps x (after_sender_load word) 1 h → next_packet k link x ≡ next_packet h link x
 packet_before_post x link word packet h k has_end found even a =
     let r = ready_to_post x link word packet h k has_end found even a in
-    packet_after_steps link x 1 (λ g. busy g.next 0 (Some word)) h k r.e r.end_is refl r.ready
+    packet_after_steps link x 1 (λ g. busy_end g.next 0 (Some word)) h k r.e r.end_is refl r.ready
 
 pub has_put_all : (link x : ℕ) (packet : List ℕ) (h j : Holding) → words_put h x ≡ Some 0 → next_packet h link x ≡ Some packet
     → j ≡ after_puts x (length packet + 1) h → HasPut j link x
@@ -134,26 +134,26 @@ has_put_all link x packet h j none_put p a = record {
 }
 
 pub turn_to_post : (x link word : ℕ) (packet : List ℕ) (h k j : Holding) → has_idle h x ≡ true
-    → (word ≡ 2 * next_number h x) ⊎ (word + 1 ≡ 2 * next_number h x) → word % 2 ≢ 1 → k ≡ after_steps x (sender_loaded word) 1 h
+    → (word ≡ 2 * next_number h x) ⊎ (word + 1 ≡ 2 * next_number h x) → word % 2 ≢ 1 → k ≡ after_steps x (after_sender_load word) 1 h
     → j ≡ after_puts x (length packet + 1) k → word + 1 ≡ 2 * next_number j x + 1
 turn_to_post x link word packet h k j has_end found even a b =
     let r = ready_to_post x link word packet h k has_end found even a in
-    let k_end = end_after_steps x 1 (λ g. busy g.next 0 (Some word)) h k r.e r.end_is r.ready in
-    let j_end = end_after_steps x (length packet + 1) (λ g. busy g.next (length packet + 1) g.last) k j (busy r.e.next 0 (Some word)) k_end b in
+    let k_end = end_after_steps x 1 (λ g. busy_end g.next 0 (Some word)) h k r.e r.end_is r.ready in
+    let j_end = end_after_steps x (length packet + 1) (λ g. busy_end g.next (length packet + 1) g.last) k j (busy_end r.e.next 0 (Some word)) k_end b in
     let next : next_number j x ≡ r.e.next = ap next_of j_end in
     let is = r.word_is in omega arith
 
 pub all_posted : (x link word : ℕ) (packet : List ℕ) (h k j i : Holding) → has_idle h x ≡ true
-    → (word ≡ 2 * next_number h x) ⊎ (word + 1 ≡ 2 * next_number h x) → word % 2 ≢ 1 → k ≡ after_steps x (sender_loaded word) 1 h
-    → j ≡ after_puts x (length packet + 1) k → i ≡ after_steps x finished 1 j → Posts x packet Posted h i
+    → (word ≡ 2 * next_number h x) ⊎ (word + 1 ≡ 2 * next_number h x) → word % 2 ≢ 1 → k ≡ after_steps x (after_sender_load word) 1 h
+    → j ≡ after_puts x (length packet + 1) k → i ≡ after_steps x after_turn_store 1 j → Posts x packet Posted h i
 all_posted x link word packet h k j i has_end found even a b c =
     let r = ready_to_post x link word packet h k has_end found even a in
     let n = length packet + 1 in
-    let to_j = steps_twice x 1 n (λ g. busy g.next 0 (Some word)) (λ g. busy g.next n g.last) h k j r.ready b in
-    let to_i = steps_twice x (1 + n) 1 (λ g. busy g.next n (Some word)) finished h j i to_j c in
+    let to_j = steps_twice x 1 n (λ g. busy_end g.next 0 (Some word)) (λ g. busy_end g.next n g.last) h k j r.ready b in
+    let to_i = steps_twice x (1 + n) 1 (λ g. busy_end g.next n (Some word)) after_turn_store h j i to_j c in
     let count : 1 + n + 1 ≡ length packet + 3 = omega arith in
-    steps_same x (1 + n + 1) (length packet + 3) (λ g. idle (g.next + 1) (Some word)) (λ g. idle (g.next + 1) (Some (2 * g.next))) h i r.e r.end_is
-    (ap (λ w. idle (r.e.next + 1) (Some w)) r.word_is) count to_i
+    steps_same x (1 + n + 1) (length packet + 3) (λ g. idle_end (g.next + 1) (Some word)) (λ g. idle_end (g.next + 1) (Some (2 * g.next))) h i r.e r.end_is
+    (ap (λ w. idle_end (r.e.next + 1) (Some w)) r.word_is) count to_i
 
 -- data loads
 pub loads_twice : (n m : ℕ) (h j k : Holding) → j ≡ after_loads n h → k ≡ after_loads m j → k ≡ after_loads (n + m) h
@@ -195,14 +195,14 @@ length_fits link x word size layout h d fits le =
     let is = length_of_first link x word h d.packet d.packet_is d in
     let small = fits d.packet d.packet_is in omega arith
 
-pub length_resized : (n : ℕ) (l : List ℕ) → length (resized n l) ≡ n
+pub length_resized : (n : ℕ) (l : List ℕ) → length (resized_words n l) ≡ n
 length_resized n l =
     let a = length-append (take n l) (replicate (n - length l) 0) in
     let b = length-take n l in
     let c : length (replicate {A = ℕ} (n - length l) 0) ≡ n - length l = length-replicate (n - length l) 0 in omega arith
 
 pub none_loaded : (link x word size : ℕ) (h : Holding) (old new : PacketWords) → IsDataWord h link x 0 word → old.size ≡ size
-    → new ≡ record old { words = resized word old.words } → Loaded link x 0 h size new
+    → new ≡ record old { words = resized_words word old.words } → Loaded link x 0 h size new
 none_loaded link x word size h old new d s e =
     let is = length_of_first link x word h d.packet d.packet_is d in
     record {
@@ -252,11 +252,11 @@ all_loaded link x i size h into l end =
 
 -- a take that is not possible yet, and one that is
 pub not_taken : (link x word : ℕ) (h k : Holding) (into : PacketWords) → FindsTurn h link x word → word % 2 ≡ 0
-    → k ≡ after_steps x (receiver_loaded word) 1 h → Takes link x (TakeNotYet word) h k into into
+    → k ≡ after_steps x (after_receiver_load word) 1 h → Takes link x (TakeNotYet word) h k into into
 not_taken link x word h k into found even a = (
   even,
   ⊎_elim (λ e. e) (λ (f : (word ≡ 2 * next_number h x + 1) × (is_some (next_packet h link x) ≡ true)). let e = f.0 in absurd (omega arith)) found,
-  a ∙ ap (λ b. after_steps x (λ e. cond b (idle e.next (Some word)) (busy e.next 0 (Some word))) 1 h) (eq-eqb (word % 2) 0 even),
+  a ∙ ap (λ b. after_steps x (λ e. cond b (idle_end e.next (Some word)) (busy_end e.next 0 (Some word))) 1 h) (eq-eqb (word % 2) 0 even),
   refl,
 )
 
@@ -266,62 +266,62 @@ record ReadyToTake (link x word : ℕ) (h k : Holding) : Type 0 where
   end_is : end_in h.ends x ≡ Some e
   word_is : word ≡ 2 * e.next + 1
   has_packet : is_some (next_packet h link x) ≡ true
-  ready : k ≡ after_steps x (λ g. busy g.next 0 (Some word)) 1 h
+  ready : k ≡ after_steps x (λ g. busy_end g.next 0 (Some word)) 1 h
 
 ready_to_take : (link x word : ℕ) (h k : Holding) → has_idle h x ≡ true → FindsTurn h link x word → word % 2 ≢ 0
-    → k ≡ after_steps x (receiver_loaded word) 1 h → ReadyToTake link x word h k
+    → k ≡ after_steps x (after_receiver_load word) 1 h → ReadyToTake link x word h k
 ready_to_take link x word h k has_end found odd a =
-    let e = idle_end (end_in h.ends x) has_end in
+    let e = idle_end_of (end_in h.ends x) has_end in
     let f : (word ≡ 2 * next_number h x + 1) × (is_some (next_packet h link x) ≡ true) = ⊎_elim (λ t. absurd (omega arith)) (λ t. t) found in
     record {
       e = e.0;
       end_is = e.1;
       word_is = f.0 ∙ ap (λ o. 2 * next_of o + 1) e.1;
       has_packet = f.1;
-      ready = a ∙ ap (λ b. after_steps x (λ g. cond b (idle g.next (Some word)) (busy g.next 0 (Some word))) 1 h) (ne_eqb (word % 2) 0 odd);
+      ready = a ∙ ap (λ b. after_steps x (λ g. cond b (idle_end g.next (Some word)) (busy_end g.next 0 (Some word))) 1 h) (ne_eqb (word % 2) 0 odd);
     }
 
 pub busy_before_take : (link x word : ℕ) (h k : Holding) → has_idle h x ≡ true → FindsTurn h link x word → word % 2 ≢ 0
-    → k ≡ after_steps x (receiver_loaded word) 1 h → is_busy k x ≡ true
+    → k ≡ after_steps x (after_receiver_load word) 1 h → is_busy k x ≡ true
 busy_before_take link x word h k has_end found odd a =
     let r = ready_to_take link x word h k has_end found odd a in
-    ap busy_of (end_after_steps x 1 (λ g. busy g.next 0 (Some word)) h k r.e r.end_is r.ready)
+    ap busy_of (end_after_steps x 1 (λ g. busy_end g.next 0 (Some word)) h k r.e r.end_is r.ready)
 
 pub packet_before_take : (link x word : ℕ) (h k : Holding) → has_idle h x ≡ true → FindsTurn h link x word → word % 2 ≢ 0
-    → k ≡ after_steps x (receiver_loaded word) 1 h → next_packet k link x ≡ next_packet h link x
+    → k ≡ after_steps x (after_receiver_load word) 1 h → next_packet k link x ≡ next_packet h link x
 packet_before_take link x word h k has_end found odd a =
     let r = ready_to_take link x word h k has_end found odd a in
-    packet_after_steps link x 1 (λ g. busy g.next 0 (Some word)) h k r.e r.end_is refl r.ready
+    packet_after_steps link x 1 (λ g. busy_end g.next 0 (Some word)) h k r.e r.end_is refl r.ready
 
 pub has_packet_before_take : (link x word : ℕ) (h k : Holding) → has_idle h x ≡ true → FindsTurn h link x word → word % 2 ≢ 0
-    → k ≡ after_steps x (receiver_loaded word) 1 h → is_some (next_packet k link x) ≡ true
+    → k ≡ after_steps x (after_receiver_load word) 1 h → is_some (next_packet k link x) ≡ true
 has_packet_before_take link x word h k has_end found odd a =
     let r = ready_to_take link x word h k has_end found odd a in
     ap is_some (packet_before_take link x word h k has_end found odd a) ∙ r.has_packet
 
 pub turn_to_take : (link x word n : ℕ) (h k j : Holding) → has_idle h x ≡ true → FindsTurn h link x word → word % 2 ≢ 0
-    → k ≡ after_steps x (receiver_loaded word) 1 h → j ≡ after_loads n k → word + 1 ≡ 2 * next_number j x + 2
+    → k ≡ after_steps x (after_receiver_load word) 1 h → j ≡ after_loads n k → word + 1 ≡ 2 * next_number j x + 2
 turn_to_take link x word n h k j has_end found odd a b =
     let r = ready_to_take link x word h k has_end found odd a in
-    let k_end = end_after_steps x 1 (λ g. busy g.next 0 (Some word)) h k r.e r.end_is r.ready in
+    let k_end = end_after_steps x 1 (λ g. busy_end g.next 0 (Some word)) h k r.e r.end_is r.ready in
     let next : next_number j x ≡ r.e.next = ap (λ (z : Holding). next_number z x) b ∙ ap next_of k_end in
     let is = r.word_is in omega arith
 
 pub all_taken : (link x word : ℕ) (h k j i : Holding) (old new : PacketWords) → has_idle h x ≡ true → FindsTurn h link x word → word % 2 ≢ 0
-    → k ≡ after_steps x (receiver_loaded word) 1 h → next_packet k link x ≡ Some new.words → new.size ≡ old.size
-    → j ≡ after_loads (length new.words + 1) k → i ≡ after_steps x finished 1 j → Takes link x Taken h i old new
+    → k ≡ after_steps x (after_receiver_load word) 1 h → next_packet k link x ≡ Some new.words → new.size ≡ old.size
+    → j ≡ after_loads (length new.words + 1) k → i ≡ after_steps x after_turn_store 1 j → Takes link x Taken h i old new
 all_taken link x word h k j i old new has_end found odd a p size b c =
     let r = ready_to_take link x word h k has_end found odd a in
     let n = length new.words + 1 in
-    let to_j : j ≡ after_steps x (λ g. busy g.next 0 (Some word)) (1 + n) h =
+    let to_j : j ≡ after_steps x (λ g. busy_end g.next 0 (Some word)) (1 + n) h =
     b ∙ ap (after_loads n) r.ready
-    ∙ ap (λ s. record { links = h.links; script = h.script; ends = changed x (λ g. busy g.next 0 (Some word)) h.ends; steps = s }) (sums h.steps n) in
-    let to_i = steps_twice x (1 + n) 1 (λ g. busy g.next 0 (Some word)) finished h j i to_j c in
+    ∙ ap (λ s. record { links = h.links; script = h.script; ends = with_change x (λ g. busy_end g.next 0 (Some word)) h.ends; steps = s }) (sums h.steps n) in
+    let to_i = steps_twice x (1 + n) 1 (λ g. busy_end g.next 0 (Some word)) after_turn_store h j i to_j c in
     let count : 1 + n + 1 ≡ length new.words + 3 = omega arith in (
       sym (packet_before_take link x word h k has_end found odd a) ∙ p,
       size,
-      steps_same x (1 + n + 1) (length new.words + 3) (λ g. idle (g.next + 1) (Some word)) (λ g. idle (g.next + 1) (Some (2 * g.next + 1))) h i r.e r.end_is
-          (ap (λ w. idle (r.e.next + 1) (Some w)) r.word_is) count to_i,
+      steps_same x (1 + n + 1) (length new.words + 3) (λ g. idle_end (g.next + 1) (Some word)) (λ g. idle_end (g.next + 1) (Some (2 * g.next + 1))) h i r.e r.end_is
+          (ap (λ w. idle_end (r.e.next + 1) (Some w)) r.word_is) count to_i,
     )
   where
     sums : (s m : ℕ) → s + 1 + m ≡ s + (1 + m)

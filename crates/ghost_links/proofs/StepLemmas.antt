@@ -14,8 +14,8 @@ use Rattle.ghost_links.specs.declared.view.End.{End}
 use Rattle.ghost_links.specs.declared.view.View.{View}
 use Rattle.ghost_links.specs.Layouts.{IsLayout, Layout, first_word, is_link, room, turn_count, word_count}
 use Rattle.ghost_links.specs.Scripts.{LinkScript, area, packet_of, script_over}
-use Rattle.ghost_links.specs.Ends.{all_ends, busy, end_in, idle, is_end, occurrences, receiving_end, rank_of_end, sending_end}
-use Rattle.ghost_links.specs.Views.{changed_view, counted_view, finished, first_view, handed_view, is_even, joined_view, kept_view, one_more_put, opening_view, receiver_loaded, sender_loaded, spent_view}
+use Rattle.ghost_links.specs.Ends.{all_ends, busy_end, end_in, idle_end, is_end, occurrences, receiving_end, rank_of_end, sending_end}
+use Rattle.ghost_links.specs.Views.{changed_view, counted_view, after_turn_store, first_view, handed_view, is_even, joined_view, kept_view, after_data_store, opening_view, after_receiver_load, after_sender_load, spent_view}
 use Rattle.ghost_links.specs.LinkRule.{EndFits, FitsLayout, FollowsRule, HavePacket, HaveWords, IsLinked, PutsPacket, ReceiverFits, SenderFits, TableState, ViewFits, total}
 use Rattle.ghost_links.specs.Holdings.{IsSeat}
 use Rattle.ghost_links.specs.Internal.Plays.{SeatState, LoadsData, ReceiverLoads, ReceiverStores, SenderLoads, SenderStores, SetsScript, StoresData}
@@ -207,16 +207,16 @@ load_after layout s r i id x f me e here at_x mine =
 
 -- the sender's load of the turn word
 sender_after_load : (layout : Layout) (script : LinkScript) (ws : List ℕ) (link : ℕ) (e : End) (packet : List ℕ) → SenderFits layout script ws link e
-    → packet_of script link e.next ≡ Some packet → SenderFits layout script ws link (sender_loaded (slice_index ws link) e)
+    → packet_of script link e.next ≡ Some packet → SenderFits layout script ws link (after_sender_load (slice_index ws link) e)
 sender_after_load layout script ws link e packet f p = ⊎_elim
     (λ t. subst (SenderFits layout script ws link)
-    (sym (ap (λ b. cond b (busy e.next 0 (Some (slice_index ws link))) (idle e.next (Some (slice_index ws link)))) (even_word (slice_index ws link) e.next t)))
+    (sym (ap (λ b. cond b (busy_end e.next 0 (Some (slice_index ws link))) (idle_end e.next (Some (slice_index ws link)))) (even_word (slice_index ws link) e.next t)))
     record {
       turn = inl t;
       puts = λ _. record { packet = packet; packet_is = p; put = omega arith; words_are = λ j lt. absurd (omega arith) };
     })
     (λ (t : (slice_index ws link + 1 ≡ 2 * e.next) × (e.busy ≡ false)). subst (SenderFits layout script ws link)
-    (sym (ap (λ b. cond b (busy e.next 0 (Some (slice_index ws link))) (idle e.next (Some (slice_index ws link)))) (odd_word (slice_index ws link) e.next t.0)))
+    (sym (ap (λ b. cond b (busy_end e.next 0 (Some (slice_index ws link))) (idle_end e.next (Some (slice_index ws link)))) (odd_word (slice_index ws link) e.next t.0)))
     record { turn = inr (t.0, refl); puts = λ b. absurd cc })
     f.turn
 
@@ -228,11 +228,11 @@ sender_load_keeps layout slots id link me e packet seat at_x p s rule _ here _ =
     let v = r.each id me.0 here in
     let f = (v.ends (sending_end link) e at_x).sender link refl in
     let p' : packet_of r.script link e.next ≡ Some packet = ap (λ t. packet_of t link e.next) (sym (v.script_is seat.in_use)) ∙ p in (
-      changed_view (sending_end link) (sender_loaded (slice_index s.words link)) me.0,
+      changed_view (sending_end link) (after_sender_load (slice_index s.words link)) me.0,
       keeps,
       tt,
-      load_after layout s r link id (sending_end link) (sender_loaded (slice_index s.words link)) me e here at_x
-          (sender_at layout r.script s.words link (sender_loaded (slice_index s.words link) e) (sender_after_load layout r.script s.words link e packet f p')),
+      load_after layout s r link id (sending_end link) (after_sender_load (slice_index s.words link)) me e here at_x
+          (sender_at layout r.script s.words link (after_sender_load (slice_index s.words link) e) (sender_after_load layout r.script s.words link e packet f p')),
       (
         refl,
         λ g q. ⊎_elim (λ t. inl t) (λ (t : (slice_index s.words link + 1 ≡ 2 * g.next) × (g.busy ≡ false)). inr t.0)
@@ -241,13 +241,13 @@ sender_load_keeps layout slots id link me e packet seat at_x p s rule _ here _ =
     )
 
 -- the receiver's load of the turn word
-receiver_after_load : (ws : List ℕ) (link : ℕ) (e : End) → ReceiverFits ws link e → ReceiverFits ws link (receiver_loaded (slice_index ws link) e)
+receiver_after_load : (ws : List ℕ) (link : ℕ) (e : End) → ReceiverFits ws link e → ReceiverFits ws link (after_receiver_load (slice_index ws link) e)
 receiver_after_load ws link e f = ⊎_elim
     (λ (t : (slice_index ws link ≡ 2 * e.next) × (e.busy ≡ false)). subst (ReceiverFits ws link)
-    (sym (ap (λ b. cond b (idle e.next (Some (slice_index ws link))) (busy e.next 0 (Some (slice_index ws link)))) (even_word (slice_index ws link) e.next t.0)))
+    (sym (ap (λ b. cond b (idle_end e.next (Some (slice_index ws link))) (busy_end e.next 0 (Some (slice_index ws link)))) (even_word (slice_index ws link) e.next t.0)))
     (inl (t.0, refl)))
     (λ t. subst (ReceiverFits ws link)
-    (sym (ap (λ b. cond b (idle e.next (Some (slice_index ws link))) (busy e.next 0 (Some (slice_index ws link)))) (odd_word_too (slice_index ws link) e.next t)))
+    (sym (ap (λ b. cond b (idle_end e.next (Some (slice_index ws link))) (busy_end e.next 0 (Some (slice_index ws link)))) (odd_word_too (slice_index ws link) e.next t)))
     (inr t))
     f
 
@@ -258,11 +258,11 @@ receiver_load_keeps layout slots id link me e seat is at_x s rule _ here _ =
     let r = in_use layout s id me.0 rule here seat in
     let v = r.each id me.0 here in
     let f = (v.ends (receiving_end link) e at_x).receiver link refl in (
-      changed_view (receiving_end link) (receiver_loaded (slice_index s.words link)) me.0,
+      changed_view (receiving_end link) (after_receiver_load (slice_index s.words link)) me.0,
       keeps,
       tt,
-      load_after layout s r link id (receiving_end link) (receiver_loaded (slice_index s.words link)) me e here at_x
-          (receiver_at layout r.script s.words link (receiver_loaded (slice_index s.words link) e) (receiver_after_load s.words link e f)),
+      load_after layout s r link id (receiving_end link) (after_receiver_load (slice_index s.words link)) me e here at_x
+          (receiver_at layout r.script s.words link (after_receiver_load (slice_index s.words link) e) (receiver_after_load s.words link e f)),
       (
         refl,
         λ g q. ⊎_elim (λ (t : (slice_index s.words link ≡ 2 * g.next) × (g.busy ≡ false)). inl t.0)
@@ -354,7 +354,7 @@ data_store_keeps layout slots id link k me e packet h seat is at_x b p lt k_is s
     let in_room : e.put < room layout link = omega arith in
     let width = r.length_is in
     let inside : i < length s.words = let d = data_is_a_word layout h link e.put lo in_room in omega arith in
-    let mine : SenderFits layout r.script us link (one_more_put e) = record {
+    let mine : SenderFits layout r.script us link (after_data_store e) = record {
       turn = inl (get_or-set_other s.words i link k 0 (turn_is_no_data layout h link link e.put lo (omega arith)) ∙ turn);
       puts = λ _. record {
         packet = packet;
@@ -364,12 +364,12 @@ data_store_keeps layout slots id link k me e packet h seat is at_x b p lt k_is s
             (subst (λ q. HaveWords s.words (first_word layout link) e.put (area q)) same puts.words_are);
       };
     } in (
-      changed_view (sending_end link) one_more_put me.0,
+      changed_view (sending_end link) after_data_store me.0,
       keeps,
       tt,
-      is_linked_inr layout s i k id me (changed_view (sending_end link) one_more_put me.0)
-          (end_after layout s r id (sending_end link) one_more_put me.0 e us here at_x (length-set s.words i k)
-          (sender_at layout r.script us link (one_more_put e) mine)
+      is_linked_inr layout s i k id me (changed_view (sending_end link) after_data_store me.0)
+          (end_after layout s r id (sending_end link) after_data_store me.0 e us here at_x (length-set s.words i k)
+          (sender_at layout r.script us link (after_data_store e) mine)
           (data_store_elsewhere layout h r.script r.script_fits s.words link e.put k lo in_room)
           (λ m m_lo unused. get_or-set_other s.words i m k 0 (turn_is_no_data layout h m link e.put m_lo (omega arith)) ∙ r.unused m m_lo unused)
           (full r turn in_room lo)),
@@ -482,12 +482,12 @@ post_store_keeps layout slots id link k me e packet h seat is at_x b p all k_is 
       words_are = subst (λ n. HaveWords s.words (first_word layout link) n (area packet)) all
           (subst (λ q. HaveWords s.words (first_word layout link) e.put (area q)) same puts.words_are);
     } in (
-      changed_view (sending_end link) finished me.0,
+      changed_view (sending_end link) after_turn_store me.0,
       keeps,
       tt,
-      is_linked_inr layout s link k id me (changed_view (sending_end link) finished me.0)
-          (end_after layout s r id (sending_end link) finished me.0 e us here at_x (length-set s.words link k)
-          (sender_at layout r.script us link (finished e) record { turn = inr (now_next, refl); puts = λ c. absurd cc })
+      is_linked_inr layout s link k id me (changed_view (sending_end link) after_turn_store me.0)
+          (end_after layout s r id (sending_end link) after_turn_store me.0 e us here at_x (length-set s.words link k)
+          (sender_at layout r.script us link (after_turn_store e) record { turn = inr (now_next, refl); puts = λ c. absurd cc })
           (turn_store_elsewhere layout h r.script r.script_fits s.words link k lo (sending_end link)
           (λ g ne. absurd (ne refl))
           (λ g _ t. inr (receiver_then s link k g e.next turn now k_is t)))
@@ -529,12 +529,12 @@ clear_store_keeps layout slots id link k me e h seat is at_x b k_is s rule _ her
     let inside : link < length s.words = let d = turn_is_a_word layout h link lo in omega arith in
     let now : slice_index us link ≡ k = get_or-set_same s.words link k 0 inside in
     let now_next : slice_index us link ≡ 2 * (e.next + 1) = omega arith in (
-      changed_view (receiving_end link) finished me.0,
+      changed_view (receiving_end link) after_turn_store me.0,
       keeps,
       tt,
-      is_linked_inr layout s link k id me (changed_view (receiving_end link) finished me.0)
-          (end_after layout s r id (receiving_end link) finished me.0 e us here at_x (length-set s.words link k)
-          (receiver_at layout r.script us link (finished e) (inl (now_next, refl)))
+      is_linked_inr layout s link k id me (changed_view (receiving_end link) after_turn_store me.0)
+          (end_after layout s r id (receiving_end link) after_turn_store me.0 e us here at_x (length-set s.words link k)
+          (receiver_at layout r.script us link (after_turn_store e) (inl (now_next, refl)))
           (turn_store_elsewhere layout h r.script r.script_fits s.words link k lo (receiving_end link)
           (λ g _ t. sender_then r lo turn now g t)
           (λ g ne. absurd (ne refl)))
@@ -652,7 +652,7 @@ occurrences_of_all ranks x = dite (dec_le (x + 1) (2 * (ranks * ranks)))
     none_there true is ge = let below = end_is_below ranks x is in absurd (omega arith)
     none_there false is ge = refl
 
-idle_fits : (layout : Layout) (script : LinkScript) (words : ℕ) (x : ℕ) → EndFits layout script (replicate words 0) x (idle 0 None)
+idle_fits : (layout : Layout) (script : LinkScript) (words : ℕ) (x : ℕ) → EndFits layout script (replicate words 0) x (idle_end 0 None)
 idle_fits layout script words x = record {
   sender = λ link _. record { turn = inl (zeros_at words link); puts = λ b. absurd cc };
   receiver = λ link _. inl (zeros_at words link, refl);

@@ -12,13 +12,13 @@ sending_end link = 2 * link
 abbrev pub receiving_end : ℕ → ℕ
 receiving_end link = 2 * link + 1
 
--- An end has the number of its next packet and a stage, idle or busy. A busy sending end has the number of data words that it has put.
--- Each end keeps the last turn word that was loaded there.
-abbrev pub idle : ℕ → Option ℕ → End
-idle n last = record { next = n; busy = false; put = 0; last = last }
+-- An end has the number of its next packet and a stage, idle or busy. A busy sending end has the number of data words
+-- that it has put. Each end keeps the last turn word that was loaded there.
+abbrev pub idle_end : ℕ → Option ℕ → End
+idle_end n last = record { next = n; busy = false; put = 0; last = last }
 
-abbrev pub busy : ℕ → ℕ → Option ℕ → End
-busy n put last = record { next = n; busy = true; put = put; last = last }
+abbrev pub busy_end : ℕ → ℕ → Option ℕ → End
+busy_end n put last = record { next = n; busy = true; put = put; last = last }
 
 -- Finite maps from numbers of ends to ends, as lists of pairs of which the first one of a number counts.
 abbrev pub EndMap : Type 0
@@ -37,9 +37,9 @@ abbrev pub occurrences : ℕ → EndMap → ℕ
 occurrences x m = end_count (end_in m x)
 
 -- the map with one end changed
-abbrev pub changed : ℕ → (End → End) → EndMap → EndMap
-changed x f [] = []
-changed x f (p ∷ ps) = cond (eqb p.0 x) ((p.0, f p.1) ∷ ps) (p ∷ changed x f ps)
+abbrev pub with_change : ℕ → (End → End) → EndMap → EndMap
+with_change x f [] = []
+with_change x f (p ∷ ps) = cond (eqb p.0 x) ((p.0, f p.1) ∷ ps) (p ∷ with_change x f ps)
 
 -- the map on the numbers that pass a test
 abbrev pub restriction : (ℕ → Bool) → EndMap → EndMap
@@ -61,7 +61,7 @@ rank_of_end ranks x = cond (eqb (x % 2) 0) (x / 2 / ranks) (x / 2 % ranks)
 -- the ends of all links, idle before packet 0
 abbrev pub ends_below : ℕ → ℕ → EndMap
 ends_below ranks zero = []
-ends_below ranks (suc x) = cond (is_end ranks x) ((x, idle 0 None) ∷ ends_below ranks x) (ends_below ranks x)
+ends_below ranks (suc x) = cond (is_end ranks x) ((x, idle_end 0 None) ∷ ends_below ranks x) (ends_below ranks x)
 
 abbrev pub all_ends : ℕ → EndMap
 all_ends ranks = ends_below ranks (2 * (ranks * ranks))

@@ -11,7 +11,7 @@ use Rattle.ghost_links.specs.declared.view.End.{End}
 use Rattle.ghost_links.specs.declared.view.View.{View}
 use Rattle.ghost_links.specs.Layouts.{IsLayout, Layout, given_size, turn_word}
 use Rattle.ghost_links.specs.Scripts.{LinkScript, packet_of}
-use Rattle.ghost_links.specs.Ends.{EndMap, changed, end_in, idle, receiving_end, sending_end}
+use Rattle.ghost_links.specs.Ends.{EndMap, with_change, end_in, idle_end, receiving_end, sending_end}
 use Rattle.ghost_links.specs.Views.{first_view, handed_view, joined_view, kept_view, view}
 use Rattle.ghost_links.specs.LinkRule.{FitsLayout}
 use Rattle.ghost_links.specs.Packets.{PacketWords}
@@ -84,28 +84,29 @@ next_packet h link x = packet_of h.script link (next_number h x)
 
 -- A seat after steps that change one end.
 abbrev pub after_steps : ℕ → (End → End) → ℕ → Holding → Holding
-after_steps x f n h = record { links = h.links; script = h.script; ends = changed x f h.ends; steps = h.steps + n }
+after_steps x f n h = record { links = h.links; script = h.script; ends = with_change x f h.ends; steps = h.steps + n }
 
--- A post or take that isn't possible yet: one step, and its word is kept.
+-- A post or take that is not possible yet: one step, and its word is kept.
 abbrev pub after_load : ℕ → ℕ → Holding → Holding
-after_load x word h = after_steps x (λ e. idle e.next (Some word)) 1 h
+after_load x word h = after_steps x (λ e. idle_end e.next (Some word)) 1 h
 
 -- A post of a packet: the load of 2n, the data words, and the store of the turn word.
 abbrev pub after_post : ℕ → List ℕ → Holding → Holding
-after_post x packet h = after_steps x (λ e. idle (e.next + 1) (Some (2 * e.next))) (length packet + 3) h
+after_post x packet h = after_steps x (λ e. idle_end (e.next + 1) (Some (2 * e.next))) (length packet + 3) h
 
 -- A take: the load of 2n + 1, the data words, and the store of the turn word.
 abbrev pub after_take : ℕ → List ℕ → Holding → Holding
-after_take x packet h = after_steps x (λ e. idle (e.next + 1) (Some (2 * e.next + 1))) (length packet + 3) h
+after_take x packet h = after_steps x (λ e. idle_end (e.next + 1) (Some (2 * e.next + 1))) (length packet + 3) h
 
--- What a post answers, and what it makes of its seat: not yet exactly where the word that its load found is odd. It is then that of the
--- packet before.
+-- What a post answers, and what it makes of its seat: not yet exactly where the word that its load found is odd. The
+-- word then says that the link has the previous packet.
 abbrev pub Posts : ℕ → List ℕ → PostAnswer → Holding → Holding → Type 0
 Posts x packet Posted h k = k ≡ after_post x packet h
 Posts x packet (PostNotYet word) h k =
     (word % 2 ≡ 1) × (word + 1 ≡ 2 * next_number h x) × (k ≡ after_load x word h)
 
--- What a take answers, and what it makes of its seat and of the packet: not yet exactly where the word that its load found is even.
+-- What a take answers, and what it makes of its seat and of the packet: not yet exactly where the word that its load
+-- found is even.
 abbrev pub Takes : ℕ → ℕ → TakeAnswer → Holding → Holding → PacketWords → PacketWords → Type 0
 Takes link x Taken h k old new =
     (next_packet h link x ≡ Some new.words) × (new.size ≡ old.size) × (k ≡ after_take x new.words h)

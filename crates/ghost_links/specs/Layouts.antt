@@ -1,5 +1,5 @@
--- How the words of a table of links are laid out: a turn word for each pair of ranks, then the data words of the links in the order of
--- the turn words. A link is named by its turn word. This project's own.
+-- How the words of a table of links are laid out: a turn word for each pair of ranks, then the data words of the links
+-- in the order of the turn words. A link is named by its turn word. This project's own.
 use Rattle.std.specs.Prelude.{◌≡◌, ℕ, zero, suc, ◌+◌, ◌-◌, ◌*◌, ◌/◌, ◌%◌, ◌<◌, ◌≤◌, ◌^◌, Bool, not, ◌&&◌, cond, eqb, ltb, List, [], map, length, slice_index, slice_index_or}
 use Rattle.std.specs.List.{range_with_len}
 use Rattle.liszt_base.specs.Limits.{rank_limit}

@@ -1,5 +1,5 @@
--- The link rule, over the words of a table and the views of all seats. It is in a compact form, which the proof of each step uses;
--- `laws::link_rule` has its sentences one by one. This project's own.
+-- The link rule, over the words of a table and the views of all seats. It is in a compact form, which the proof of each
+-- step uses; `laws::link_rule` has its sentences one by one. This project's own.
 use Rattle.std.specs.Prelude.{◌≡◌, ◌≢◌, ◌⊎◌, ℕ, ◌+◌, ◌*◌, ◌<◌, ◌≤◌, ◌^◌, true, false, cond, List, [], ◌∷◌, length, replicate, slice_index, slice_index_or}
 use Rattle.std.specs.declared.option.Option.TheVariants.{Some}
 use mathlib.Core.Option.{some}
@@ -45,8 +45,8 @@ pub record PutsPacket (layout : Layout) (script : LinkScript) (words : List ℕ)
   pub put : e.put ≤ length (area packet)
   pub words_are : HaveWords words (first_word layout link) e.put (area packet)
 
--- At turn word 2n both ends have next number n, and the receiving end is idle. At 2n + 1 the sending end has n + 1 and is idle, and the
--- receiving end has n.
+-- At turn word 2n both ends have next number n, and the receiving end is idle. At 2n + 1 the sending end has n + 1 and
+-- is idle, and the receiving end has n.
 pub record SenderFits (layout : Layout) (script : LinkScript) (words : List ℕ) (link : ℕ) (e : End) : Type 0 where
   pub turn : (slice_index words link ≡ 2 * e.next) ⊎ ((slice_index words link + 1 ≡ 2 * e.next) × (e.busy ≡ false))
   pub puts : e.busy ≡ true → PutsPacket layout script words link e

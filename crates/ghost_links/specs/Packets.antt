@@ -7,5 +7,5 @@ pub record PacketWords : Type 0 where
   pub words : List ℕ
 
 -- the first n words, filled up with 0
-abbrev pub resized : ℕ → List ℕ → List ℕ
-resized n words = take n words ++ replicate (n - length words) 0
+abbrev pub resized_words : ℕ → List ℕ → List ℕ
+resized_words n words = take n words ++ replicate (n - length words) 0

@@ -5,7 +5,7 @@ use Rattle.ghost_links.specs.declared.view.End.{End}
 use Rattle.ghost_links.specs.declared.view.View.{View}
 use Rattle.ghost_links.specs.Layouts.{Layout}
 use Rattle.ghost_links.specs.Scripts.{LinkScript, script_over}
-use Rattle.ghost_links.specs.Ends.{EndMap, idle, busy, changed, restriction, all_ends, rank_of_end}
+use Rattle.ghost_links.specs.Ends.{EndMap, idle_end, busy_end, with_change, restriction, all_ends, rank_of_end}
 
 abbrev pub view : Layout → LinkScript → EndMap → Bool → ℕ → View
 view layout script ends joined steps =
@@ -31,25 +31,26 @@ abbrev pub counted_view : View → View
 counted_view v = view v.layout v.script v.ends v.joined (v.steps + 1)
 
 abbrev pub changed_view : ℕ → (End → End) → View → View
-changed_view x f v = view v.layout v.script (changed x f v.ends) v.joined (v.steps + 1)
+changed_view x f v = view v.layout v.script (with_change x f v.ends) v.joined (v.steps + 1)
 
 abbrev pub is_even : ℕ → Bool
 is_even word = eqb (word % 2) 0
 
--- A sender's load of an even turn word makes its end busy with no word put; a receiver's load of an odd one makes its end busy.
-abbrev pub sender_loaded : ℕ → End → End
-sender_loaded word e = cond (is_even word) (busy e.next 0 (Some word)) (idle e.next (Some word))
+-- A sender's load of an even turn word makes its end busy with no word put; a receiver's load of an odd one makes its
+-- end busy.
+abbrev pub after_sender_load : ℕ → End → End
+after_sender_load word e = cond (is_even word) (busy_end e.next 0 (Some word)) (idle_end e.next (Some word))
 
-abbrev pub receiver_loaded : ℕ → End → End
-receiver_loaded word e = cond (is_even word) (idle e.next (Some word)) (busy e.next 0 (Some word))
+abbrev pub after_receiver_load : ℕ → End → End
+after_receiver_load word e = cond (is_even word) (idle_end e.next (Some word)) (busy_end e.next 0 (Some word))
 
 -- a data store
-abbrev pub one_more_put : End → End
-one_more_put e = busy e.next (e.put + 1) e.last
+abbrev pub after_data_store : End → End
+after_data_store e = busy_end e.next (e.put + 1) e.last
 
 -- a store of the turn word, by the sender or by the receiver
-abbrev pub finished : End → End
-finished e = idle (e.next + 1) e.last
+abbrev pub after_turn_store : End → End
+after_turn_store e = idle_end (e.next + 1) e.last
 
 -- a split that hands over the ends of a rank: the view of the seat, and of the new one
 abbrev pub kept_view : ℕ → View → View

@@ -12,7 +12,7 @@ ghost use Rattle.ghost_links.specs.declared.view.End.{End};
 ghost use Rattle.ghost_links.specs.declared.view.View.{View};
 ghost use Rattle.ghost_links.specs.Layouts.{Layout, first_word, given_room, given_size, is_link, layout_of, packet_size, turn_count, turn_word};
 ghost use Rattle.ghost_links.specs.Scripts.{packet_of, script_over};
-ghost use Rattle.ghost_links.specs.Ends.{end_in, idle, is_end, occurrences, receiving_end, sending_end};
+ghost use Rattle.ghost_links.specs.Ends.{end_in, idle_end, is_end, occurrences, receiving_end, sending_end};
 ghost use Rattle.ghost_links.specs.LinkRule.{FollowsRule, HavePacket, IsInOneView, IsLinked, PutsPacket, TableState};
 ghost use Rattle.ghost_links.specs.Holdings.{ChangedOneEnd, HasLink, Holding, IsSeat, LinkTable, Posts, Takes, after_join, after_split, first_holding, handed_holding, has_idle, last_word, posted_count, receiver, sender, taken_count};
 ghost use Rattle.ghost_links.specs.Packets.{PacketWords};
@@ -101,10 +101,10 @@ pub fn answers_change_one_end()
 pub fn seats_have_ends()
     ensures first_sender { (t : LinkTable) (packets : ℕ → ℕ → List (List ℕ)) (a b : ℕ)
         → HasLink t a b → end_in (first_holding t packets).ends (sender t a b)
-        ≡ Some (idle 0 None) }
+        ≡ Some (idle_end 0 None) }
     ensures first_receiver { (t : LinkTable) (packets : ℕ → ℕ → List (List ℕ)) (a b : ℕ)
         → HasLink t a b → end_in (first_holding t packets).ends (receiver t a b)
-        ≡ Some (idle 0 None) }
+        ≡ Some (idle_end 0 None) }
     ensures handed_sender { (h : Holding) (rank a b : ℕ) → HasLink h.links a b
         → end_in (handed_holding rank h).ends (sender h.links a b)
         ≡ cond (eqb a rank) (end_in h.ends (sender h.links a b)) None }

@@ -5,7 +5,7 @@ ghost use Rattle.ghost_links.specs.Layouts.{first_of, is_link, layout_of, packet
 ghost use Rattle.ghost_links.specs.Scripts.{script_over};
 ghost use Rattle.ghost_links.specs.Ends.{receiving_end, sending_end};
 ghost use Rattle.ghost_links.specs.LinkRule.{FitsLayout};
-ghost use Rattle.ghost_links.specs.Views.{finished, one_more_put, opening_view, receiver_loaded, sender_loaded};
+ghost use Rattle.ghost_links.specs.Views.{after_turn_store, after_data_store, opening_view, after_receiver_load, after_sender_load};
 ghost use Rattle.ghost_links.specs.Internal.Stages.{FindsTurn, HasDataPlace, HasPut, IsDataWord, NextFits, after_loads, after_puts, is_busy, is_some, words_put};
 
 use crate::layout::LinkLayout;
@@ -57,7 +57,8 @@ impl Model for Links {
 
     ghost view = { λ l. record { table = l.table.shared.table_id; layout = l.layout } };
 
-    ghost invariant = { λ l. IsLayout l.layout × (l.table.shared.key ≡ l.layout) × (l.table.shared.table_id.words ≡ word_count l.layout) };
+    ghost invariant = { λ l. IsLayout l.layout × (l.table.shared.key ≡ l.layout)
+        × (l.table.shared.table_id.words ≡ word_count l.layout) };
 }
 
 /// The right to some ends of links. Contracts see the table, the script, the ends and the number of its steps.
@@ -163,7 +164,7 @@ impl Links {
         requires link { is_link self.now.layout.ranks link ≡ true }
         requires end { has_idle s.old (sending_end link) ≡ true }
         requires packet { is_some (next_packet s.old link (sending_end link)) ≡ true }
-        ensures seat { s.new ≡ after_steps (sending_end link) (sender_loaded result) 1 s.old }
+        ensures seat { s.new ≡ after_steps (sending_end link) (after_sender_load result) 1 s.old }
         ensures word { (result ≡ 2 * next_number s.old (sending_end link))
             ⊎ (result + 1 ≡ 2 * next_number s.old (sending_end link)) }
     {
@@ -190,7 +191,7 @@ impl Links {
         requires link { is_link self.now.layout.ranks link ≡ true }
         requires end { words_put s.old (sending_end link) ≡ Some place }
         requires word { IsDataWord s.old link (sending_end link) place word }
-        ensures { s.new ≡ after_steps (sending_end link) one_more_put 1 s.old }
+        ensures { s.new ≡ after_steps (sending_end link) after_data_store 1 s.old }
     {
         self.store_data_as::<Brand>(s, link, place, word);
     }
@@ -202,7 +203,7 @@ impl Links {
         requires link { is_link self.now.layout.ranks link ≡ true }
         requires end { words_put s.old (sending_end link) ≡ Some place }
         requires word { IsDataWord s.old link (sending_end link) place word }
-        ensures { s.new ≡ after_steps (sending_end link) one_more_put 1 s.old }
+        ensures { s.new ≡ after_steps (sending_end link) after_data_store 1 s.old }
     {
         let seat = &mut s.seat;
         let index = self.layout.first(link) + place;
@@ -215,7 +216,7 @@ impl Links {
         requires link { is_link self.now.layout.ranks link ≡ true }
         requires end { HasPut s.old link (sending_end link) }
         requires turn { turn ≡ 2 * next_number s.old (sending_end link) + 1 }
-        ensures { s.new ≡ after_steps (sending_end link) finished 1 s.old }
+        ensures { s.new ≡ after_steps (sending_end link) after_turn_store 1 s.old }
     {
         self.table
             .shared
@@ -247,7 +248,7 @@ impl Links {
         requires links { AreLinked self.now s.old }
         requires link { is_link self.now.layout.ranks link ≡ true }
         requires end { has_idle s.old (receiving_end link) ≡ true }
-        ensures seat { s.new ≡ after_steps (receiving_end link) (receiver_loaded result) 1 s.old }
+        ensures seat { s.new ≡ after_steps (receiving_end link) (after_receiver_load result) 1 s.old }
         ensures word { FindsTurn s.old link (receiving_end link) result }
         ensures bound { result + 1 < 2 ^ 64 }
     {
@@ -306,7 +307,7 @@ impl Links {
         requires link { is_link self.now.layout.ranks link ≡ true }
         requires end { is_busy s.old (receiving_end link) ≡ true }
         requires turn { turn ≡ 2 * next_number s.old (receiving_end link) + 2 }
-        ensures { s.new ≡ after_steps (receiving_end link) finished 1 s.old }
+        ensures { s.new ≡ after_steps (receiving_end link) after_turn_store 1 s.old }
     {
         self.table
             .shared

@@ -1,5 +1,5 @@
 ghost use Rattle.std.specs.Prelude.{◌≡◌, ◌<◌, ◌≤◌, [], IfOk, Some, length, set, slice_get};
-ghost use Rattle.ghost_links.specs.Packets.{resized};
+ghost use Rattle.ghost_links.specs.Packets.{resized_words};
 
 use liszt_base::NoMemory;
 use std::alloc::Global;
@@ -44,7 +44,7 @@ impl Packet {
     /// Cuts the list to `n` words, or fills it up with 0.
     pub fn set_used(&mut self, n: usize)
         requires { n ≤ self.old.size }
-        ensures { self.new ≡ record self.old { words = resized n self.old.words } }
+        ensures { self.new ≡ record self.old { words = resized_words n self.old.words } }
     {
         if self.used < n {
             self.buffer.as_mut_slice()[self.used..n].fill(0);

@@ -4,17 +4,17 @@ use Rattle.std.specs.List.{range_with_len}
 use Rattle.std.proofs.lemmas.List.{take_more_set}
 use Rattle.std.proofs.lemmas.List.FromFn.{map-range_with_len_more}
 use Rattle.std.proofs.Math.Seq.{take-length}
-use Rattle.ghost_links.specs.Packets.{PacketWords, resized}
+use Rattle.ghost_links.specs.Packets.{PacketWords, resized_words}
 use Rattle.ghost_links.proofs.StageLemmas.{length_resized}
 use Rattle.link_tests.specs.Scripts.{word_at}
 
--- the first i of so many words are there
+-- the first i of `used` words are there
 pub record HasFirst (a b n used i size : ℕ) (p : PacketWords) : Type 0 where
   pub length_is : length p.words ≡ used
   pub words_are : take i p.words ≡ map (word_at a b n) (range_with_len 0 i)
   pub size_is : p.size ≡ size
 
-pub none_first : (a b n used : ℕ) (old new : PacketWords) → new ≡ record old { words = resized used old.words } → HasFirst a b n used 0 old.size new
+pub none_first : (a b n used : ℕ) (old new : PacketWords) → new ≡ record old { words = resized_words used old.words } → HasFirst a b n used 0 old.size new
 none_first a b n used old new e = record {
   length_is = ap (λ (p : PacketWords). length p.words) e ∙ length_resized used old.words;
   words_are = refl;

@@ -5,7 +5,7 @@ use Rattle.std.proofs.lemmas.List.{get_or-replicate, length-replicate}
 use Rattle.std.proofs.lemmas.List.FromFn.{get_or-map-range_with_len, length-map-range_with_len}
 use Rattle.std.proofs.Math.Nat.{div-lt_iff_lt-mul, mod-lt}
 use Rattle.ghost_links.specs.Layouts.{Layout, first_of, given_size, layout_of, packet_size, turn_word}
-use Rattle.ghost_links.specs.Ends.{end_in, idle}
+use Rattle.ghost_links.specs.Ends.{end_in, idle_end}
 use Rattle.ghost_links.specs.Holdings.{FitsSizes, HasIdleEnds, HasLink, Holding, IsSquare, LinkTable, after_split, first_holding, handed_holding, is_idle, link_of, next_of, receiver, sender}
 use Rattle.ghost_links.proofs.EndLemmas.{first_receiver, first_sender, handed_receiver, handed_sender, kept_receiver, kept_sender}
 use Rattle.ghost_links.proofs.RuleLemmas.{packets_of_pair, size_of_pair}
@@ -71,7 +71,7 @@ few_words_in_all ranks above few =
     let m : ranks * ranks ≤ 16 * 16 = mul-le-mul few few in omega arith
 
 -- an end that is idle before packet 0
-pub starts : (h : Holding) (x : ℕ) → end_in h.ends x ≡ Some (idle 0 None) → IsAt h x 0
+pub starts : (h : Holding) (x : ℕ) → end_in h.ends x ≡ Some (idle_end 0 None) → IsAt h x 0
 starts h x e = record { idle = ap is_idle e; next = ap next_of e }
 
 pub new_links_are_numbered : (ranks count : ℕ) (t : LinkTable) (h : Holding) → t.layout ≡ layout_of ranks (sevens ranks)

@@ -36,14 +36,14 @@ RanksStart t h first = (rank : ℕ) → first ≤ rank → rank < t.layout.ranks
 abbrev pub FitSeven : LinkTable → Type 0
 FitSeven t = (a b : ℕ) → HasLink t a b → packet_size t.layout (link_of t a b) ≤ 7
 
--- New links between so many ranks with the script of the tests, and their first seat.
+-- New links between `ranks` ranks with the script of the tests, and their first seat.
 pub record IsNumbered (t : LinkTable) (ranks count : ℕ) (h : Holding) : Type 0 where
   pub ranks_are : t.layout.ranks ≡ ranks
   pub sizes : FitSeven t
   pub script : HasScript t count h
   pub ends : RanksStart t h 0
 
--- The link from rank 0 to rank 1 with both ends in one seat, after so many posts and takes.
+-- The link from rank 0 to rank 1 with both ends in one seat, after `sent` posts and `taken` takes.
 pub record LinkIsAt (t : LinkTable) (count : ℕ) (h : Holding) (sent taken : ℕ) : Type 0 where
   pub script : HasScript t count h
   pub link : HasLink t 0 1

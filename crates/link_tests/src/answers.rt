@@ -46,7 +46,7 @@ fn try_take(links: &Links, s: &mut LinkSeat, p: &mut Packet, at: Counts) -> Opti
 
 /// Whether the calls of one thread answer what they must, on a new link: nothing can be taken from an empty link, nothing posted to a full
 /// one, and the answer has the turn word.
-pub fn answers_are_right(links: &Links, s: &mut LinkSeat, p: &mut Packet) -> bool
+pub(crate) fn answers_are_right(links: &Links, s: &mut LinkSeat, p: &mut Packet) -> bool
     requires at { LinkIsAt links.now 3 s.old 0 0 }
     requires sizes { FitSeven links.now }
     requires size { 7 ≤ p.old.size }

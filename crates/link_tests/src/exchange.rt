@@ -8,7 +8,13 @@ use crate::polling::{post_in_time, take_in_time};
 use ghost_links::{LinkId, LinkSeat, Links, Packet};
 
 /// Posts `count` packets of a link, and answers how many were posted in time.
-pub fn post_all(links: &Links, s: &mut LinkSeat, link: LinkId, p: &mut Packet, count: u32) -> u32
+pub(crate) fn post_all(
+    links: &Links,
+    s: &mut LinkSeat,
+    link: LinkId,
+    p: &mut Packet,
+    count: u32,
+) -> u32
     requires script { HasScript links.now count s.old }
     requires link { HasLink links.now link.from link.to }
     requires end { IsAt s.old (sender links.now link.from link.to) 0 }
@@ -26,11 +32,18 @@ pub fn post_all(links: &Links, s: &mut LinkSeat, link: LinkId, p: &mut Packet, c
 }
 
 /// Takes `count` packets of a link, and answers how many came in time and are what the script says.
-pub fn take_all(links: &Links, s: &mut LinkSeat, link: LinkId, p: &mut Packet, count: u32) -> u32
+pub(crate) fn take_all(
+    links: &Links,
+    s: &mut LinkSeat,
+    link: LinkId,
+    p: &mut Packet,
+    count: u32,
+) -> u32
     requires links { s.old.links ≡ links.now }
     requires link { HasLink links.now link.from link.to }
     requires end { IsAt s.old (receiver links.now link.from link.to) 0 }
-    requires size { packet_size links.now.layout (link_of links.now link.from link.to) ≤ p.old.size }
+    requires size { packet_size links.now.layout (link_of links.now link.from link.to)
+        ≤ p.old.size }
     ensures { s.new.links ≡ links.now }
 {
     for n in 0..count {

@@ -19,7 +19,7 @@ impl Script for Numbered {
 }
 
 /// Word `i` of packet `n` of a link.
-pub fn word_of(link: LinkId, n: u32, i: usize) -> u64
+pub(crate) fn word_of(link: LinkId, n: u32, i: usize) -> u64
     requires from { link.from < 16 }
     requires to { link.to < 16 }
     requires place { i < 8 }
@@ -29,7 +29,7 @@ pub fn word_of(link: LinkId, n: u32, i: usize) -> u64
 }
 
 /// Makes a packet the packet `n` of a link.
-pub fn fill(p: &mut Packet, link: LinkId, n: u32)
+pub(crate) fn fill(p: &mut Packet, link: LinkId, n: u32)
     requires from { link.from < 16 }
     requires to { link.to < 16 }
     requires size { 7 ≤ p.old.size }
@@ -44,7 +44,7 @@ pub fn fill(p: &mut Packet, link: LinkId, n: u32)
 }
 
 /// Whether a packet is the packet `n` of a link.
-pub fn is_numbered(p: &Packet, link: LinkId, n: u32) -> bool {
+pub(crate) fn is_numbered(p: &Packet, link: LinkId, n: u32) -> bool {
     if link.from >= 16 || link.to >= 16 || p.used() != n as usize % 8 {
         return false;
     }
@@ -69,7 +69,11 @@ fn sizes_of(alloc: Global, ranks: u32) -> Result<PlainLists<u32>, NoMemory>
 }
 
 /// Links between all ranks with `count` packets on each, and the seat that has all ends.
-pub fn numbered_links(alloc: Global, ranks: u32, count: u32) -> Result<(Links, LinkSeat), NoMemory>
+pub(crate) fn numbered_links(
+    alloc: Global,
+    ranks: u32,
+    count: u32,
+) -> Result<(Links, LinkSeat), NoMemory>
     requires some_rank { 0 < ranks }
     requires few_ranks { ranks ≤ 16 }
     ensures { IfOk result (λ pair. IsNumbered pair.0 ranks count pair.1) }

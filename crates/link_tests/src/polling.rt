@@ -9,7 +9,7 @@ use std::thread::yield_now;
 const TRIES: u32 = 100_000_000;
 
 /// Posts a packet once the link is free. False where it was not free in all tries.
-pub fn post_in_time(links: &Links, s: &mut LinkSeat, link: LinkId, p: &Packet) -> bool
+pub(crate) fn post_in_time(links: &Links, s: &mut LinkSeat, link: LinkId, p: &Packet) -> bool
     requires links { AreLinked links.now s.old }
     requires link { HasLink links.now link.from link.to }
     requires end { has_idle s.old (sender links.now link.from link.to) ≡ true }
@@ -27,7 +27,7 @@ pub fn post_in_time(links: &Links, s: &mut LinkSeat, link: LinkId, p: &Packet) -
 }
 
 /// Takes a packet once there is one. False where there was none in all tries.
-pub fn take_in_time(links: &Links, s: &mut LinkSeat, link: LinkId, into: &mut Packet) -> bool
+pub(crate) fn take_in_time(links: &Links, s: &mut LinkSeat, link: LinkId, into: &mut Packet) -> bool
     requires links { AreLinked links.now s.old }
     requires link { HasLink links.now link.from link.to }
     requires end { has_idle s.old (receiver links.now link.from link.to) ≡ true }

@@ -111,7 +111,7 @@ fn run_rank(links: &Links, s: &mut LinkSeat, alloc: Global, rank: u32, run: Run)
 
 /// Runs the ranks from `first` on, each in a thread of its own where there is one, and answers whether all packets came in time and are
 /// what the script says.
-pub fn run_ranks<R: Threads + Sync>(
+pub(crate) fn run_ranks<R: Threads + Sync>(
     rt: &R,
     alloc: Global,
     links: &Links,

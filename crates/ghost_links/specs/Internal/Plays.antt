@@ -7,7 +7,7 @@ use Rattle.ghost_links.specs.declared.view.View.{View}
 use Rattle.ghost_links.specs.Layouts.{Layout}
 use Rattle.ghost_links.specs.Scripts.{area, packet_of}
 use Rattle.ghost_links.specs.Ends.{end_in, receiving_end, sending_end}
-use Rattle.ghost_links.specs.Views.{changed_view, counted_view, finished, first_view, one_more_put, receiver_loaded, sender_loaded}
+use Rattle.ghost_links.specs.Views.{changed_view, counted_view, after_turn_store, first_view, after_data_store, after_receiver_load, after_sender_load}
 
 abbrev pub SeatState : Type 0
 SeatState = Me (Unit {0}) View
@@ -17,17 +17,17 @@ SetsScript layout packets s v found w = w ≡ (first_view layout packets, v.1)
 
 -- A sender finds 2n or 2n - 1 at its next number n.
 abbrev pub SenderLoads : Step (Unit {0}) → SeatState → ℕ → SeatState → Type 0
-SenderLoads s v found w = (w ≡ (changed_view (sending_end s.word) (sender_loaded found) v.0, v.1))
+SenderLoads s v found w = (w ≡ (changed_view (sending_end s.word) (after_sender_load found) v.0, v.1))
     × ((e : End) → end_in v.0.ends (sending_end s.word) ≡ Some e → (found ≡ 2 * e.next) ⊎ (found + 1 ≡ 2 * e.next))
 
 -- A receiver finds 2n or 2n + 1 at its next number n, and at 2n + 1 the script has a packet n.
 abbrev pub ReceiverLoads : Step (Unit {0}) → SeatState → ℕ → SeatState → Type 0
-ReceiverLoads s v found w = (w ≡ (changed_view (receiving_end s.word) (receiver_loaded found) v.0, v.1))
+ReceiverLoads s v found w = (w ≡ (changed_view (receiving_end s.word) (after_receiver_load found) v.0, v.1))
     × ((e : End) → end_in v.0.ends (receiving_end s.word) ≡ Some e → (found ≡ 2 * e.next)
     ⊎ ((found ≡ 2 * e.next + 1) × ((packet : List ℕ) × (packet_of v.0.script s.word e.next ≡ Some packet))))
 
 abbrev pub StoresData : ℕ → Step (Unit {0}) → SeatState → ℕ → SeatState → Type 0
-StoresData link s v stored w = w ≡ (changed_view (sending_end link) one_more_put v.0, v.1)
+StoresData link s v stored w = w ≡ (changed_view (sending_end link) after_data_store v.0, v.1)
 
 -- The word of the area at this place.
 abbrev pub LoadsData : ℕ → ℕ → Step (Unit {0}) → SeatState → ℕ → SeatState → Type 0
@@ -36,7 +36,7 @@ LoadsData link place s v found w = (w ≡ (counted_view v.0, v.1))
     → found ≡ slice_index (area packet) place)
 
 abbrev pub SenderStores : Step (Unit {0}) → SeatState → ℕ → SeatState → Type 0
-SenderStores s v stored w = w ≡ (changed_view (sending_end s.word) finished v.0, v.1)
+SenderStores s v stored w = w ≡ (changed_view (sending_end s.word) after_turn_store v.0, v.1)
 
 abbrev pub ReceiverStores : Step (Unit {0}) → SeatState → ℕ → SeatState → Type 0
-ReceiverStores s v stored w = w ≡ (changed_view (receiving_end s.word) finished v.0, v.1)
+ReceiverStores s v stored w = w ≡ (changed_view (receiving_end s.word) after_turn_store v.0, v.1)

@@ -5,7 +5,7 @@ use Rattle.std.specs.declared.option.Option.TheVariants.{None, Some}
 use Rattle.ghost_links.specs.declared.view.End.{End}
 use Rattle.ghost_links.specs.Layouts.{Layout, packet_size}
 use Rattle.ghost_links.specs.Scripts.{area}
-use Rattle.ghost_links.specs.Ends.{busy, end_in}
+use Rattle.ghost_links.specs.Ends.{busy_end, end_in}
 use Rattle.ghost_links.specs.Holdings.{Holding, after_steps, next_number, next_packet}
 
 abbrev pub is_some : {A : Type 0} → Option A → Bool
@@ -40,7 +40,8 @@ pub record HasDataPlace (h : Holding) (link x place : ℕ) : Type 0 where
 
 -- the next packet is no longer than its link's size
 abbrev pub NextFits : Layout → Holding → ℕ → ℕ → Type 0
-NextFits layout h link x = (packet : List ℕ) → next_packet h link x ≡ Some packet → length packet ≤ packet_size layout link
+NextFits layout h link x =
+    (packet : List ℕ) → next_packet h link x ≡ Some packet → length packet ≤ packet_size layout link
 
 -- the end has put all data words of its next packet
 pub record HasPut (h : Holding) (link x : ℕ) : Type 0 where
@@ -55,7 +56,7 @@ FindsTurn h link x word = (word ≡ 2 * next_number h x)
 
 -- a seat after it has put n data words, and after n data loads
 abbrev pub after_puts : ℕ → ℕ → Holding → Holding
-after_puts x n h = after_steps x (λ e. busy e.next n e.last) n h
+after_puts x n h = after_steps x (λ e. busy_end e.next n e.last) n h
 
 abbrev pub after_loads : ℕ → Holding → Holding
 after_loads n h = record { links = h.links; script = h.script; ends = h.ends; steps = h.steps + n }
