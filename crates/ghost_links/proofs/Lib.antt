@@ -1,0 +1,10 @@
+pub mod AnswerLemmas
+pub mod EndLemmas
+pub mod LayoutLemmas
+pub mod MapLemmas
+pub mod RuleLemmas
+pub mod SeatLemmas
+pub mod SharedLemmas
+pub mod StageLemmas
+pub mod StepLemmas
+pub mod SumLemmas

@@ -1,0 +1,26 @@
+//! Which types threads may share, and move between one another.
+
+ghost use Rattle.std.specs.Prelude.{◌≡◌};
+
+use crate::links::{LinkId, LinkSeat, Links, PostAnswer, TakeAnswer};
+use crate::packet::Packet;
+
+/// One, for a type that may be shared.
+fn shared<T: Send + Sync>() -> usize
+    ensures { result ≡ 1 }
+{
+    1
+}
+
+/// The number of types of this crate, each of which may be shared.
+#[allow(dead_code)]
+fn shared_types() -> usize
+    ensures { result ≡ 6 }
+{
+    shared::<Links>()
+        + shared::<LinkSeat>()
+        + shared::<LinkId>()
+        + shared::<Packet>()
+        + shared::<PostAnswer>()
+        + shared::<TakeAnswer>()
+}

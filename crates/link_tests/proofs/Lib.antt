@@ -1,0 +1,4 @@
+pub mod FillLemmas
+pub mod PollLemmas
+pub mod RoundLemmas
+pub mod TableLemmas
