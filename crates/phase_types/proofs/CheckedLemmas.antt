@@ -129,10 +129,10 @@ pub record Follows (state : MainState) (site : Site) : Type 0 where
   pub comprehensions : AreCodesOf state.comprehensions (comprehensions_in site.parts)
 
 -- the parts of a sort after a further part of that sort, and of another one
-one_more : {A : Type 0} (sort : Part → Option A) (parts : List Part) (part : Part) (x : A) → sort part ≡ Some x → filter_map sort parts ++ x ∷ [] ≡ filter_map sort (parts ++ part ∷ [])
+pub one_more : {A : Type 0} (sort : Part → Option A) (parts : List Part) (part : Part) (x : A) → sort part ≡ Some x → filter_map sort parts ++ x ∷ [] ≡ filter_map sort (parts ++ part ∷ [])
 one_more sort parts part x e = sym (filter_map-append sort parts (part ∷ []) ∙ ap (λ found. filter_map sort parts ++ cons_option found []) e)
 
-no_more : {A : Type 0} (sort : Part → Option A) (parts : List Part) (part : Part) → sort part ≡ None → filter_map sort parts ≡ filter_map sort (parts ++ part ∷ [])
+pub no_more : {A : Type 0} (sort : Part → Option A) (parts : List Part) (part : Part) → sort part ≡ None → filter_map sort parts ≡ filter_map sort (parts ++ part ∷ [])
 no_more sort parts part e = sym (filter_map-append sort parts (part ∷ []) ∙ ap (λ found. filter_map sort parts ++ cons_option found []) e ∙ append-nil (filter_map sort parts))
 
 field_follows : (state : MainState) (site : Site) (name : List ℕ) (kind : Kind) → Follows state site → resolution_of state.names name ≡ None → Follows (declares_field name kind state) (with_field name kind site)

@@ -1,6 +1,8 @@
+pub mod AccessLemmas
 pub mod BindingLemmas
 pub mod BodyLemmas
 pub mod CheckedLemmas
+pub mod ComprehensionLemmas
 pub mod ConflictLemmas
 pub mod FaultLemmas
 pub mod LoopLemmas

@@ -1,4 +1,5 @@
 pub mod Checked
+pub mod CheckedParts
 pub mod Environments
 pub mod Internal
 pub mod Resolve
