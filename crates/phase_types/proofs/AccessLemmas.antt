@@ -237,7 +237,7 @@ abbrev IsBuiltIn : Binding → Type 0
 IsBuiltIn (FieldName number kind) = number < 5
 IsBuiltIn _ = Unit {0}
 
-binds_all : (P : Binding → Type 0) (environment : Environment) (name : List ℕ) (binding : Binding) → AllByRecursion (λ entry. P entry.1) environment
+pub binds_all : (P : Binding → Type 0) (environment : Environment) (name : List ℕ) (binding : Binding) → AllByRecursion (λ entry. P entry.1) environment
     → binding_of environment name ≡ Some binding → P binding
 binds_all P [] name binding all e = absurd cc
 binds_all P (entry ∷ environment) name binding all e = elim (first_or_rest environment entry.0 name entry.1 binding e) as (λ c. P binding) [

@@ -67,7 +67,7 @@ mutual
   items_stand {site = site} last (FitsItems {i = i} {rest = rest} h g) b on all =
       items_stand last g (item_binds site i b) on (item_stands last h b (prefix_of_prefix (main_is_prefix (after_item site i) rest) on) all)
 
-same_item : {A : Type 0} (y x : A) → Some y ≡ Some x → y ≡ x
+pub same_item : {A : Type 0} (y x : A) → Some y ≡ Some x → y ≡ x
 same_item y x e = cc
 
 all_at : {A : Type 0} (P : A → Type 0) (xs : List A) (n : ℕ) (x : A) → AllByRecursion P xs → slice_get xs n ≡ Some x → P x

@@ -40,7 +40,7 @@ mutual
   main_is_prefix site (item i rest) = prefix_of_prefix (item_is_prefix site i) (main_is_prefix (after_item site i) rest)
 
 -- the item after a list is at the index that is its length
-at_length : {A : Type 0} (front : List A) (x : A) (rest : List A) → slice_get (front ++ x ∷ rest) (length front) ≡ Some x
+pub at_length : {A : Type 0} (front : List A) (x : A) (rest : List A) → slice_get (front ++ x ∷ rest) (length front) ≡ Some x
 at_length [] x rest = refl
 at_length (y ∷ front) x rest = at_length front x rest
 

@@ -2,6 +2,7 @@ pub mod Checked
 pub mod CheckedParts
 pub mod Environments
 pub mod Internal
+pub mod Layouts
 pub mod Resolve
 pub mod Typed
 pub mod Types
