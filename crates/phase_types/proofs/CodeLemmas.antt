@@ -3,7 +3,7 @@ use Rattle.std.proofs.Common.{◌≡◌, ℕ, Bool, true, false, cond, List, [],
 use Rattle.std.proofs.lemmas.Bool.{and_parts}
 use Rattle.std.proofs.lemmas.List.{map-append}
 use Rattle.std.specs.Option.{option_and_then}
-use Rattle.std.specs.Prelude.{Option, Some, None, ◌&&◌, nat_lt, slice_get, Result, Ok, Err}
+use Rattle.std.specs.Prelude.{Option, Some, None, ◌&&◌, nat_lt, slice_get, Result, Ok, Err, is_some}
 use Rattle.liszt_base.specs.Kinds.{is_kind, has_set}
 use Rattle.liszt_base.specs.declared.accesses.Mode.TheVariants.{Read}
 use Rattle.liszt_base.specs.declared.answers.Place.{Place}
@@ -29,7 +29,7 @@ use Rattle.resolved_code.specs.declared.expressions.NumberLink.{NumberLink}
 use Rattle.resolved_code.specs.declared.expressions.TruthCode.{TruthCode, the_lemmas as truth_lemmas}
 use Rattle.resolved_code.specs.declared.expressions.TruthCode.TheVariants as truth
 use Rattle.resolved_code.specs.declared.expressions.TruthLink.{TruthLink}
-use Rattle.phase_types.specs.Layouts.{Layout, field_kind, same_kind, call_kind, towards_kind, element_kind, has_kind, has_members, all_fit, number_fits, truth_fits}
+use Rattle.phase_types.specs.Layouts.{Layout, field_kind, same_kind, call_kind, towards_kind, element_kind, has_members, all_fit, number_fits, truth_fits}
 use Rattle.phase_types.specs.Resolve.{◌>>=◌, fails, Names, resolution_of, Accesses, with_access, number_in, truth_in, element_in, element_of_kind, element_with_set, resolved_name, named_field, call_code, called_code, towards_code, is_equality, comparison_code, negated, inverted, arithmetic_of, connective_of, number_link, truth_link, number_operand, truth_operand, first_of_chain, extended_chain, whole_chain, resolved_expression, resolved_links, resolved_number, resolved_truth, resolved_element}
 use Rattle.phase_types.specs.Types.{are_towards_kinds, is_sameness}
 use Rattle.phase_types.specs.Walk.{OfField, OfScalar, place_of}
@@ -97,7 +97,7 @@ module _ (W : Layout) where
   field_is : (place : Place) (field : ℕ) (arg : ElementCode) → number_fits W (number.Field place field arg) ≡ same_kind (field_kind W field) (element_kind W arg)
   field_is place field arg = search (rules, number_lemmas)
 
-  id_is : (place : Place) (arg : ElementCode) → number_fits W (number.Id place arg) ≡ has_kind (element_kind W arg)
+  id_is : (place : Place) (arg : ElementCode) → number_fits W (number.Id place arg) ≡ is_some (element_kind W arg)
   id_is place arg = search (rules, number_lemmas)
 
   neg_is : (place : Place) (arg : NumberCode) → number_fits W (number.Neg place arg) ≡ number_fits W arg
@@ -109,7 +109,7 @@ module _ (W : Layout) where
   chain_is : (first : NumberCode) (rest : List NumberLink) → number_fits W (number.Chain first rest) ≡ (number_fits W first && all_fit (map link_fits rest))
   chain_is first rest = search (rules, number_lemmas)
 
-  valid_is : (arg : ElementCode) → truth_fits W (truth.Valid arg) ≡ has_kind (element_kind W arg)
+  valid_is : (arg : ElementCode) → truth_fits W (truth.Valid arg) ≡ is_some (element_kind W arg)
   valid_is arg = search (rules, truth_lemmas)
 
   not_is : (arg : TruthCode) → truth_fits W (truth.Not arg) ≡ truth_fits W arg
@@ -209,8 +209,8 @@ module _ (W : Layout) (C : Type 0) where
   call_fits place Outside Face arg h = record { of = made_by function.Outside Face Cell arg refl h }
   call_fits place Flip Edge arg h = record { of = made_by function.Flip Edge Edge arg refl h }
   call_fits place Flip Face arg h = record { of = made_by function.Flip Face Face arg refl h }
-  call_fits place Valid kind arg h = record { of = λ c. valid_is W arg ∙ ap has_kind (h c) }
-  call_fits place Id kind arg h = record { of = λ c. id_is W place arg ∙ ap has_kind (h c) }
+  call_fits place Valid kind arg h = record { of = λ c. valid_is W arg ∙ ap (λ (k : Option Kind). is_some k) (h c) }
+  call_fits place Id kind arg h = record { of = λ c. id_is W place arg ∙ ap (λ (k : Option Kind). is_some k) (h c) }
   call_fits place _ _ arg h = record { of = tt }
 
   called_fits : (place : Place) (fun : Fun) (v : TypedCode) → (C → TypedFits W v) → Holds (λ v. C → TypedFits W v) (called_code place fun v)

@@ -1,7 +1,7 @@
 -- Codes that fit the frame of their comprehension: each slot is one of the frame, each element is of the kind that is wanted there, and
 -- each field and scalar is one of the program. This project's own.
 use Rattle.std.specs.Option.{option_and_then}
-use Rattle.std.specs.Prelude.{◌≡◌, ℕ, ◌&&◌, nat_lt, if◌then◌else◌, Bool, true, false, Option, Some, None, List, [], ◌∷◌, map, length, slice_get}
+use Rattle.std.specs.Prelude.{◌≡◌, ℕ, ◌&&◌, nat_lt, if◌then◌else◌, Bool, true, false, Option, Some, None, is_some, List, [], ◌∷◌, map, length, slice_get}
 use Rattle.liszt_base.specs.Kinds.{is_kind, has_set, kind_of}
 use Rattle.liszt_base.specs.declared.elements.Kind.{Kind}
 use Rattle.liszt_base.specs.declared.elements.Kind.TheVariants.{Vertex, Edge, Face, Cell}
@@ -68,10 +68,6 @@ element_layer layout (ElementCode-F.Towards arg to) = towards_kind arg to
 abbrev pub element_kind : Layout → ElementCode → Option Kind
 element_kind layout e = fold-ElementCode (Option Kind) (element_layer layout) e
 
-abbrev pub has_kind : Option Kind → Bool
-has_kind None = false
-has_kind (Some kind) = true
-
 abbrev pub all_fit : List Bool → Bool
 all_fit [] = true
 all_fit (b ∷ rest) = b && all_fit rest
@@ -82,7 +78,7 @@ number_layer layout (NumberCode-F.Constant value) = true
 number_layer layout (NumberCode-F.Local slot) = nat_lt slot layout.numbers
 number_layer layout (NumberCode-F.Scalar scalar) = nat_lt scalar layout.scalars
 number_layer layout (NumberCode-F.Field place field arg) = same_kind (field_kind layout field) (element_kind layout arg)
-number_layer layout (NumberCode-F.Id place arg) = has_kind (element_kind layout arg)
+number_layer layout (NumberCode-F.Id place arg) = is_some (element_kind layout arg)
 number_layer layout (NumberCode-F.Neg place arg) = arg
 number_layer layout (NumberCode-F.Chain first rest) = first && all_fit rest
 
@@ -94,7 +90,7 @@ number_fits layout e = fold-NumberCode Bool Bool (number_layer layout) number_li
 
 -- TRUTH VALUES
 abbrev pub truth_layer : Layout → TruthCode-F Bool Bool → Bool
-truth_layer layout (TruthCode-F.Valid arg) = has_kind (element_kind layout arg)
+truth_layer layout (TruthCode-F.Valid arg) = is_some (element_kind layout arg)
 truth_layer layout (TruthCode-F.Not arg) = arg
 truth_layer layout (TruthCode-F.Chain first rest) = first && all_fit rest
 truth_layer layout (TruthCode-F.CompareNumbers rel left right) = number_fits layout left && number_fits layout right

@@ -23,9 +23,11 @@ use Rattle.resolved_code.specs.declared.expressions.NumberCode.{NumberCode}
 use Rattle.resolved_code.specs.declared.expressions.NumberCode.TheVariants as number_code
 use Rattle.resolved_code.specs.declared.expressions.TruthCode.TheVariants as truth
 use Rattle.resolved_code.specs.declared.items.ItemCode.TheVariants as item_code
+use Rattle.resolved_code.specs.declared.statements.StatementCode.{StatementCode}
 use Rattle.resolved_code.specs.declared.statements.StatementCode.TheVariants as code
 use Rattle.phase_types.specs.declared.state.CheckedProgram.{CheckedProgram}
 use Rattle.phase_types.specs.Internal.Cases.{column, single_item}
+use Rattle.phase_types.specs.Layouts.{Layout, field_kinds}
 
 abbrev pub constant : ℕ → NumberCode
 constant n = number_code.Constant (pos n)
@@ -141,3 +143,16 @@ slots_of_blocks_code =
           } ∷ [];
       items = item_code.Var 0 (constant 0) ∷ item_code.For 0 ∷ item_code.For 1 ∷ item_code.Print (column 12) (number_code.Scalar 0) ∷ [];
     }
+
+-- the layout of the second comprehension, and code that names a local number, a scalar, and a field at an element
+abbrev pub slots_layout : Layout
+slots_layout = record { elements = Face ∷ Edge ∷ Vertex ∷ Cell ∷ []; numbers = 2; fields = field_kinds []; scalars = 1 }
+
+abbrev pub sets_local : ℕ → StatementCode
+sets_local slot = code.Local slot Set (constant 1)
+
+abbrev pub adds_to_scalar : ℕ → StatementCode
+adds_to_scalar scalar = code.Scalar scalar (Fold Add) (constant 1)
+
+abbrev pub field_at : ℕ → ℕ → NumberCode
+field_at field slot = number_code.Field (column 1) field (element.Slot slot)
