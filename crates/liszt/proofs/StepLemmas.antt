@@ -26,7 +26,7 @@ use Rattle.liszt_report.specs.Endings.{ending_text, program_ending, ending_of, f
 use Rattle.liszt.specs.Simple.{done_text}
 use Rattle.liszt.specs.Expected.{Outcome, refusal, Within, ProgramResult, NodeResult, EleResult, TakesIn, RunsOn, Finishes, TakesCells, TakesPoints, Seq, ResultsIn}
 use Rattle.liszt.specs.Answers.{outside, IsLost, Answers, Wrote, HasCauses, HasShelfCause}
-use Rattle.liszt.specs.Internal.Steps.{HasStepCause, StepGives, MakesJob, Prepares, ReadsProgram, job_text}
+use Rattle.liszt.specs.Internal.Steps.{HasStepCause, StepGives, input_at, MakesJob, Prepares, ReadsProgram, job_text}
 use Rattle.liszt_lexer.specs.Lexed.{LexedText, lexed_text}
 use Rattle.liszt_lexer.proofs.LexedTextLemmas.{lexed_parts}
 use Rattle.liszt_parser.specs.Grammar.{lexeme, lexemes}
@@ -79,7 +79,7 @@ err_is x y e = cc
 -- a refusal of the bytes alone is a refusal of every result
 pub step_refused : {A B : Type 0} (files : Files) (input : Input) (name : List ℕ) (HasResult : List ℕ → Result A Ended → Type 0) (Itself : List ℕ → Result B Ended → Type 0)
     (before now : Tally) (ended : Ended) → ((bytes : List ℕ) (e : Ended) → Itself bytes (Err e) → ⊥)
-    → StepGives files input name Itself before now (Err ended) → StepGives files input name HasResult before now (Err ended)
+    → StepGives (input_at files input name) Itself before now (Err ended) → StepGives (input_at files input name) HasResult before now (Err ended)
 step_refused files input name HasResult Itself before now ended none (inl memory) = inl memory
 step_refused files input name HasResult Itself before now ended none (inr (inl lost)) = inr (inl lost)
 step_refused files input name HasResult Itself before now ended none (inr (inr h)) = inr (inr (h.0, h.1, go h.2))
@@ -90,8 +90,8 @@ step_refused files input name HasResult Itself before now ended none (inr (inr h
 
 -- the value of bytes within the limit, and their fault
 pub step_value : {A B : Type 0} (files : Files) (input : Input) (name : List ℕ) (HasResult : List ℕ → Result A Ended → Type 0) (Itself : List ℕ → Result B Ended → Type 0)
-    (before now : Tally) (seen : B) (value : A) → StepGives files input name Itself before now (Ok seen)
-    → ((bytes : List ℕ) → Itself bytes (Ok seen) → HasResult bytes (Ok value)) → StepGives files input name HasResult before now (Ok value)
+    (before now : Tally) (seen : B) (value : A) → StepGives (input_at files input name) Itself before now (Ok seen)
+    → ((bytes : List ℕ) → Itself bytes (Ok seen) → HasResult bytes (Ok value)) → StepGives (input_at files input name) HasResult before now (Ok value)
 step_value files input name HasResult Itself before now seen value h more = (h.0, h.1, go h.2, h.3)
   where
     go : Within input Itself h.0 (Ok seen) → Within input HasResult h.0 (Ok value)
@@ -99,8 +99,8 @@ step_value files input name HasResult Itself before now seen value h more = (h.0
     go (inr w) = inr (w.0, more h.0 w.1)
 
 pub step_fault : {A B : Type 0} (files : Files) (input : Input) (name : List ℕ) (HasResult : List ℕ → Result A Ended → Type 0) (Itself : List ℕ → Result B Ended → Type 0)
-    (before now : Tally) (seen : B) (ended : Ended) → StepGives files input name Itself before now (Ok seen)
-    → ((bytes : List ℕ) → Itself bytes (Ok seen) → HasResult bytes (Err ended)) → StepGives files input name HasResult before now (Err ended)
+    (before now : Tally) (seen : B) (ended : Ended) → StepGives (input_at files input name) Itself before now (Ok seen)
+    → ((bytes : List ℕ) → Itself bytes (Ok seen) → HasResult bytes (Err ended)) → StepGives (input_at files input name) HasResult before now (Err ended)
 step_fault files input name HasResult Itself before now seen ended h more = inr (inr (h.0, h.1, go h.2))
   where
     go : Within input Itself h.0 (Ok seen) → Within input HasResult h.0 (Err ended)
@@ -110,27 +110,27 @@ step_fault files input name HasResult Itself before now seen ended h more = inr 
 -- a call on the bytes was refused
 pub step_failed : {A B F : Type 0} (files : Files) (input : Input) (name : List ℕ) (HasResult : List ℕ → Result A Ended → Type 0) (Itself : List ℕ → Result B Ended → Type 0)
     (before now : Tally) (seen : B) (of_fault : F → Ended) (refused : Refused F) (result : Result A Ended) → result ≡ Err (ending_of of_fault refused)
-    → StepGives files input name Itself before now (Ok seen)
+    → StepGives (input_at files input name) Itself before now (Ok seen)
     → ((bytes : List ℕ) (fault : F) → refused ≡ Fault fault → Itself bytes (Ok seen) → HasResult bytes (Err (of_fault fault)))
-    → StepGives files input name HasResult before now result
+    → StepGives (input_at files input name) HasResult before now result
 step_failed {A} files input name HasResult Itself before now seen of_fault (Fault fault) result is h more =
-    subst (λ (r : Result A Ended). StepGives files input name HasResult before now r) (sym is)
+    subst (λ (r : Result A Ended). StepGives (input_at files input name) HasResult before now r) (sym is)
     (step_fault files input name HasResult Itself before now seen (of_fault fault) h (λ bytes same. more bytes fault refl same))
 step_failed {A} files input name HasResult Itself before now seen of_fault OutOfMemory result is h more =
-    subst (λ (r : Result A Ended). StepGives files input name HasResult before now r) (sym is) (inl refl)
+    subst (λ (r : Result A Ended). StepGives (input_at files input name) HasResult before now r) (sym is) (inl refl)
 
 -- From the steps to the command
 
 -- an input is refused
 input_refused : {A : Type 0} (files : Files) (input : Input) (name : List ℕ) (HasResult : List ℕ → Result A Ended → Type 0) (Continues : A → Outcome → Type 0) (before now : Tally) (ended : Ended)
-    → StepGives files input name HasResult before now (Err ended) → (ended ≡ NoMemory) ⊎ TakesIn (IsLost files before now) files input name HasResult Continues (refusal ended)
+    → StepGives (input_at files input name) HasResult before now (Err ended) → (ended ≡ NoMemory) ⊎ TakesIn (IsLost files before now) files input name HasResult Continues (refusal ended)
 input_refused files input name HasResult Continues before now ended (inl memory) = inl memory
 input_refused files input name HasResult Continues before now ended (inr (inl lost)) = inr (inl (lost.1, ap refusal lost.0))
 input_refused files input name HasResult Continues before now ended (inr (inr h)) = inr (inr (h.0, Err ended, h.1, h.2, refl))
 
 -- the input has a value, with which the command continues to the outcome
 input_continues : {A : Type 0} (Lost : List ℕ → Type 0) (files : Files) (input : Input) (name : List ℕ) (HasResult : List ℕ → Result A Ended → Type 0) (Continues : A → Outcome → Type 0) (before now : Tally) (value : A) (outcome : Outcome)
-    → StepGives files input name HasResult before now (Ok value) → Continues value outcome → TakesIn Lost files input name HasResult Continues outcome
+    → StepGives (input_at files input name) HasResult before now (Ok value) → Continues value outcome → TakesIn Lost files input name HasResult Continues outcome
 input_continues Lost files input name HasResult Continues before now value outcome h rest = inr (h.0, Ok value, h.1, h.2, rest)
 
 refusal_continues : (Comes Comes' : Outcome → Type 0) (ended : Ended) → ((outcome : Outcome) → Comes outcome → Comes' outcome)
@@ -150,27 +150,27 @@ abbrev done_with : List ℕ → Outcome
 done_with text = record { ended = Done; text = text }
 
 pub program_refused : (words : List (List ℕ)) (files : Files) (c : SeqCommand) (before now : Tally) (ended : Ended) → command_of words ≡ Some c
-    → StepGives files Program c.program ProgramResult before now (Err ended) → Prepares words files before now (Err ended)
+    → StepGives (input_at files Program c.program) ProgramResult before now (Err ended) → Prepares words files before now (Err ended)
 program_refused words files c before now ended is first =
     let Lost : List ℕ → Type 0 = IsLost files before now in
     refusal_continues (Seq Lost files c) (ResultsIn Lost words files) ended (λ outcome. named Lost words files c outcome is)
     (input_refused files Program c.program ProgramResult (TakesPoints Lost files c) before now ended first)
 
 pub node_refused : (words : List (List ℕ)) (files : Files) (c : SeqCommand) (program : Main) (before t now : Tally) (ended : Ended) → command_of words ≡ Some c
-    → StepGives files Program c.program ProgramResult before t (Ok program) → StepGives files Node c.node NodeResult t now (Err ended) → Prepares words files before now (Err ended)
+    → StepGives (input_at files Program c.program) ProgramResult before t (Ok program) → StepGives (input_at files Node c.node) NodeResult t now (Err ended) → Prepares words files before now (Err ended)
 node_refused words files c program before t now ended is first second =
     let Lost : List ℕ → Type 0 = IsLost files before now in
-    let second' = subst (λ (s : Tally). StepGives files Node c.node NodeResult s now (Err ended)) first.3 second in
+    let second' = subst (λ (s : Tally). StepGives (input_at files Node c.node) NodeResult s now (Err ended)) first.3 second in
     refusal_continues (TakesPoints Lost files c program) (ResultsIn Lost words files) ended
     (λ outcome h. named Lost words files c outcome is (input_continues Lost files Program c.program ProgramResult (TakesPoints Lost files c) before t program outcome first h))
     (input_refused files Node c.node NodeResult (TakesCells Lost files c program) before now ended second')
 
 pub ele_refused : (words : List (List ℕ)) (files : Files) (c : SeqCommand) (program : Main) (table : PointTable) (before t u now : Tally) (ended : Ended) → command_of words ≡ Some c
-    → StepGives files Program c.program ProgramResult before t (Ok program) → StepGives files Node c.node NodeResult t u (Ok table)
-    → StepGives files Ele c.ele (EleResult table) u now (Err ended) → Prepares words files before now (Err ended)
+    → StepGives (input_at files Program c.program) ProgramResult before t (Ok program) → StepGives (input_at files Node c.node) NodeResult t u (Ok table)
+    → StepGives (input_at files Ele c.ele) (EleResult table) u now (Err ended) → Prepares words files before now (Err ended)
 ele_refused words files c program table before t u now ended is first second third =
     let Lost : List ℕ → Type 0 = IsLost files before now in
-    let third' = subst (λ (s : Tally). StepGives files Ele c.ele (EleResult table) s now (Err ended)) (second.3 ∙ first.3) third in
+    let third' = subst (λ (s : Tally). StepGives (input_at files Ele c.ele) (EleResult table) s now (Err ended)) (second.3 ∙ first.3) third in
     refusal_continues (TakesCells Lost files c program table) (ResultsIn Lost words files) ended
     (λ outcome h. named Lost words files c outcome is
     (input_continues Lost files Program c.program ProgramResult (TakesPoints Lost files c) before t program outcome first
@@ -203,8 +203,8 @@ refusal_finishes Comes tree mesh ended comes (inr (inr later)) =
     inr (comes (refusal ended) (typed_finishes tree mesh (refusal ended) later.2 (inr (later.1, ap refusal later.0))))
 
 pub all_inputs : (words : List (List ℕ)) (files : Files) (c : SeqCommand) (program : Main) (table : PointTable) (mesh : MeshLists) (made : Result Job Ended) (before t u now : Tally) → command_of words ≡ Some c
-    → StepGives files Program c.program ProgramResult before t (Ok program) → StepGives files Node c.node NodeResult t u (Ok table)
-    → StepGives files Ele c.ele (EleResult table) u now (Ok mesh) → MakesJob program mesh made → Prepares words files before now made
+    → StepGives (input_at files Program c.program) ProgramResult before t (Ok program) → StepGives (input_at files Node c.node) NodeResult t u (Ok table)
+    → StepGives (input_at files Ele c.ele) (EleResult table) u now (Ok mesh) → MakesJob program mesh made → Prepares words files before now made
 all_inputs words files c program table mesh made before t u now is first second third makes = go made makes
   where
     comes : (outcome : Outcome) → Finishes program mesh outcome → ResultsIn (IsLost files before now) words files outcome

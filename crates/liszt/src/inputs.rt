@@ -73,8 +73,8 @@ fn read_program_file<F: Shelf>(alloc: Global, shelf: &mut F, name: &str) -> Resu
     ensures not_usage { result ≡ Err Usage → ⊥ }
     ensures few { IfOk result (λ program. item_count (program_tree program) ≤ token_limit) }
     ensures answers { (files : Files) → F.contents shelf.old ≡ Some files
-        → StepGives files TheProgram name.now ProgramResult (F.tally shelf.old) (F.tally shelf.new)
-        (as_tree result) }
+        → StepGives (record { files = files; input = TheProgram; name = name.now }) ProgramResult
+        (F.tally shelf.old) (F.tally shelf.new) (as_tree result) }
 {
     let bytes = read_bytes(alloc, shelf, name, Input::Program)?;
     Ok(read_program(alloc, bytes.as_slice())?)
@@ -97,7 +97,8 @@ fn read_node_file<F: Shelf>(alloc: Global, shelf: &mut F, name: &str) -> Result<
     ensures not_usage { result ≡ Err Usage → ⊥ }
     ensures few { IfOk result (λ points. length points.list < 2 ^ 32) }
     ensures answers { (files : Files) → F.contents shelf.old ≡ Some files
-        → StepGives files Node name.now NodeResult (F.tally shelf.old) (F.tally shelf.new) result }
+        → StepGives (record { files = files; input = Node; name = name.now }) NodeResult
+        (F.tally shelf.old) (F.tally shelf.new) result }
 {
     let rows = read_rows(alloc, shelf, name, Input::Node)?;
     Ok(read_points(alloc, &rows)?)
@@ -115,8 +116,8 @@ fn read_ele_file<F: Shelf>(
     ensures cause { HasStepCause (F.faults shelf.old) (F.faults shelf.new) result }
     ensures not_usage { result ≡ Err Usage → ⊥ }
     ensures answers { (files : Files) → F.contents shelf.old ≡ Some files
-        → StepGives files Ele name.now (EleResult points) (F.tally shelf.old) (F.tally shelf.new)
-        result }
+        → StepGives (record { files = files; input = Ele; name = name.now }) (EleResult points)
+        (F.tally shelf.old) (F.tally shelf.new) result }
 {
     let rows = read_rows(alloc, shelf, name, Input::Ele)?;
     Ok(read_cells(alloc, &rows, points)?)
@@ -133,7 +134,8 @@ fn read_rows<F: Shelf>(
     ensures cause { HasStepCause (F.faults shelf.old) (F.faults shelf.new) result }
     ensures not_usage { result ≡ Err Usage → ⊥ }
     ensures answers { (files : Files) → F.contents shelf.old ≡ Some files
-        → StepGives files input name.now AreItsRows (F.tally shelf.old) (F.tally shelf.new) result }
+        → StepGives (record { files = files; input = input; name = name.now }) AreItsRows
+        (F.tally shelf.old) (F.tally shelf.new) result }
 {
     let bytes = read_bytes(alloc, shelf, name, input)?;
     Ok(rows_of(alloc, bytes.as_slice())?)
@@ -151,7 +153,8 @@ fn read_bytes<F: Shelf>(
     ensures not_usage { result ≡ Err Usage → ⊥ }
     ensures short { IfOk result (λ bytes. length bytes ≤ file_limit) }
     ensures answers { (files : Files) → F.contents shelf.old ≡ Some files
-        → StepGives files input name.now IsItself (F.tally shelf.old) (F.tally shelf.new) result }
+        → StepGives (record { files = files; input = input; name = name.now }) IsItself
+        (F.tally shelf.old) (F.tally shelf.new) result }
 {
     match read_whole(alloc, shelf, name, FILE_LIMIT) {
         Ok(bytes) => Ok(bytes),

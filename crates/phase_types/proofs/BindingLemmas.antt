@@ -37,7 +37,7 @@ denotes_later parts rest name LocalName h = absurd h
 denotes_later parts rest name (ElementName kind) h = absurd h
 
 -- the same environment, with further parts
-binds_later : (site later : Site) → later.environment ≡ site.environment → IsPrefix site.parts later.parts → BindsParts site → BindsParts later
+pub binds_later : (site later : Site) → later.environment ≡ site.environment → IsPrefix site.parts later.parts → BindsParts site → BindsParts later
 binds_later site later same on h = record {
   denotes = λ name binding e. subst (λ parts. DenotesPart parts name binding) (sym on.appended)
       (denotes_later site.parts on.rest name binding (h.denotes name binding (ap (λ environment. binding_of environment name) (sym same) ∙ e)));
@@ -47,7 +47,7 @@ pub equal_bytes : (xs ys : List ℕ) → bytes_eq xs ys ≡ true → xs ≡ ys
 equal_bytes xs ys e = (bytes_eq-Decides xs ys).0 e
 
 -- THE FIRST BINDING of an environment is that of its name, and the others are those of the rest
-first_or_rest : (environment : Environment) (name other : List ℕ) (first binding : Binding) → binding_of ((name, first) ∷ environment) other ≡ Some binding
+pub first_or_rest : (environment : Environment) (name other : List ℕ) (first binding : Binding) → binding_of ((name, first) ∷ environment) other ≡ Some binding
     → ((name ≡ other) × (first ≡ binding)) ⊎ (binding_of environment other ≡ Some binding)
 first_or_rest environment name other first binding e = elim (cases_Bool (bytes_eq other name)) as (λ c. ((name ≡ other) × (first ≡ binding)) ⊎ (binding_of environment other ≡ Some binding)) [
   | inl is ↦ inl (sym (equal_bytes other name is), (let f : Some first ≡ Some binding = rw is at e in cc))

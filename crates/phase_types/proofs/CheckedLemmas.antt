@@ -80,10 +80,14 @@ found_steps steps (Ok (Some firsts)) (Err other) h g = absurd (h.same)
 found_steps steps (Err fault) (Ok a) h g = absurd (h.same)
 found_steps steps (Err fault) (Err other) h g = record { same = g.same ∙ ap Some (h.same) }
 
--- THE CODE OF A COMPREHENSION has its kind and its modes
+-- THE CODE OF A COMPREHENSION has its kind and its modes, and is the resolved comprehension
 pub record IsCodeOf (c : ComprehensionCode) (comprehension : Comprehension) : Type 0 where
   pub over : c.over ≡ comprehension.over
   pub modes : (subject : Subject) → access_mode c subject ≡ mode_in comprehension subject
+  pub names : Names
+  pub agrees : Agrees names comprehension.environment
+  pub at : Place
+  pub resolved : resolved_comprehension names comprehension.name at comprehension.over comprehension.body ≡ Ok c
 
 abbrev pub AreCodesOf : List ComprehensionCode → List Comprehension → Type 0
 AreCodesOf [] [] = Unit {0}
@@ -102,10 +106,13 @@ name_found : {names : Names} {environment : Environment} → Agrees names enviro
 name_found {names = names} {environment = environment} agrees name at =
     found_main {s = λ (u : Unit {0}). None} (name_requirement environment name at) (new_name (resolution_of names name) at) (new_walks agrees None name at)
 
-comprehension_found : {names : Names} {environment : Environment} → Agrees names environment → (name : List ℕ) (at : Place) (over : Kind) (body : Body)
+abbrev HasKindAndModes : Comprehension → ComprehensionCode → Type 0
+HasKindAndModes comprehension c = (c.over ≡ comprehension.over) × ((subject : Subject) → access_mode c subject ≡ mode_in comprehension subject)
+
+comprehension_walked : {names : Names} {environment : Environment} → Agrees names environment → (name : List ℕ) (at : Place) (over : Kind) (body : Body)
     → Finds (faults_in_main (name_requirement environment name at) ++ faults_in_steps [] (body_steps ((name, ElementName over) ∷ environment) body))
-    (λ c. IsCodeOf c (record { environment = environment; name = name; over = over; body = body })) (resolved_comprehension names name at over body)
-comprehension_found {names = names} {environment = environment} agrees name at over body =
+    (HasKindAndModes (record { environment = environment; name = name; over = over; body = body })) (resolved_comprehension names name at over body)
+comprehension_walked {names = names} {environment = environment} agrees name at over body =
     let steps : List Step = body_steps ((name, ElementName over) ∷ environment) body in
     found_both {P = λ (d : ℕ × Names × Frame). Agrees d.1 ((name, ElementName over) ∷ environment) × (d.2.accesses ≡ Some [])}
     (faults_in_main (name_requirement environment name at)) (faults_in_steps [] steps) (declared_element names no_slots name at over) _
@@ -113,11 +120,22 @@ comprehension_found {names = names} {environment = environment} agrees name at o
     (λ d h. found_made (resolved_body d.1 d.2 [] body) _
     (found_steps steps (walk (Some []) steps) (resolved_body d.1 d.2 [] body) (subst (λ accesses. Walks after_body IsAny (walk accesses steps) (resolved_body d.1 d.2 [] body)) (h.1) (body_walks (h.0) d.2 [] body))
     (walks_steps steps [] [] no_accesses))
-    (λ b h. record { over = refl; modes = λ subject. ap (option_map (λ access. access.mode)) (h.found subject) }))
+    (λ b h. (refl, λ subject. ap (option_map (λ access. access.mode)) (h.found subject))))
   where
     new_element : {names : Names} {environment : Environment} → Agrees names environment → (name : List ℕ) (over : Kind) → resolution_of names name ≡ None
         → Agrees (names ++ element_name name over no_slots ∷ []) ((name, ElementName over) ∷ environment) × ((with_element over no_slots).accesses ≡ Some [])
     new_element agrees name over new = (declared name (resolution.Element 0 over) agrees new, refl)
+
+found_value : {A : Type 0} {P Q : A → Type 0} {faults : List (Option ProgramFault)} (result : Result A ProgramFault) → Finds faults P result → ((a : A) → P a → result ≡ Ok a → Q a) → Finds faults Q result
+found_value (Ok a) h g = record { same = (h.same.0, g a (h.same.1) refl) }
+found_value (Err fault) h g = record { same = h.same }
+
+comprehension_found : {names : Names} {environment : Environment} → Agrees names environment → (name : List ℕ) (at : Place) (over : Kind) (body : Body)
+    → Finds (faults_in_main (name_requirement environment name at) ++ faults_in_steps [] (body_steps ((name, ElementName over) ∷ environment) body))
+    (λ c. IsCodeOf c (record { environment = environment; name = name; over = over; body = body })) (resolved_comprehension names name at over body)
+comprehension_found {names = names} agrees name at over body =
+    found_value (resolved_comprehension names name at over body) (comprehension_walked agrees name at over body)
+    (λ c h is. record { over = h.0; modes = h.1; names = names; agrees = agrees; at = at; resolved = is })
 
 -- THE MAIN PROGRAM so far has the names, the scope and the parts of its site
 pub record Follows (state : MainState) (site : Site) : Type 0 where
@@ -129,10 +147,10 @@ pub record Follows (state : MainState) (site : Site) : Type 0 where
   pub comprehensions : AreCodesOf state.comprehensions (comprehensions_in site.parts)
 
 -- the parts of a sort after a further part of that sort, and of another one
-one_more : {A : Type 0} (sort : Part → Option A) (parts : List Part) (part : Part) (x : A) → sort part ≡ Some x → filter_map sort parts ++ x ∷ [] ≡ filter_map sort (parts ++ part ∷ [])
+pub one_more : {A : Type 0} (sort : Part → Option A) (parts : List Part) (part : Part) (x : A) → sort part ≡ Some x → filter_map sort parts ++ x ∷ [] ≡ filter_map sort (parts ++ part ∷ [])
 one_more sort parts part x e = sym (filter_map-append sort parts (part ∷ []) ∙ ap (λ found. filter_map sort parts ++ cons_option found []) e)
 
-no_more : {A : Type 0} (sort : Part → Option A) (parts : List Part) (part : Part) → sort part ≡ None → filter_map sort parts ≡ filter_map sort (parts ++ part ∷ [])
+pub no_more : {A : Type 0} (sort : Part → Option A) (parts : List Part) (part : Part) → sort part ≡ None → filter_map sort parts ≡ filter_map sort (parts ++ part ∷ [])
 no_more sort parts part e = sym (filter_map-append sort parts (part ∷ []) ∙ ap (λ found. filter_map sort parts ++ cons_option found []) e ∙ append-nil (filter_map sort parts))
 
 field_follows : (state : MainState) (site : Site) (name : List ℕ) (kind : Kind) → Follows state site → resolution_of state.names name ≡ None → Follows (declares_field name kind state) (with_field name kind site)
@@ -323,6 +341,9 @@ program_checked program = found_made (resolved_items first_state [] program) _ (
   scalar_modes = λ k scalar. modes_are_those r.1.comprehensions _ h.comprehensions k (OfScalar scalar);
 })
 
+codes_found : (program : Main) → Finds (faults_in_items start program) (λ checked. AreCodesOf checked.comprehensions (comprehensions_in (after_main start program).parts)) (checked_program program)
+codes_found program = found_made (resolved_items first_state [] program) _ (program_found program) (λ r h. h.comprehensions)
+
 -- THE LAWS
 result_found : {A : Type 0} {P : A → Type 0} {faults : List (Option ProgramFault)} (result result' : Result A ProgramFault) → result ≡ result' → Finds faults P result → Finds faults P result'
 result_found {P = P} {faults = faults} result result' e h = subst (Finds faults P) e h
@@ -351,6 +372,22 @@ typed_is_checked program typed = go (checked_program program) refl (program_chec
 
 pub checked_parts : (program : Main) (checked : CheckedProgram) → checked_program program ≡ Ok checked → HasPartsOf program checked
 checked_parts program checked e = (result_found (checked_program program) (Ok checked) e (program_checked program)).same.1
+
+code_at : (cs : List ComprehensionCode) (comprehensions : List Comprehension) → AreCodesOf cs comprehensions → (k : ℕ) (c : ComprehensionCode) → slice_get cs k ≡ Some c
+    → (comprehension : Comprehension) × (slice_get comprehensions k ≡ Some comprehension) × IsCodeOf c comprehension
+code_at [] [] h k c e = absurd cc
+code_at (x ∷ cs) (y ∷ ys) h zero c e = (y, refl, subst (λ c. IsCodeOf c y) (same_code x c e) h.0) where
+  same_code : (x c : ComprehensionCode) → Some x ≡ Some c → x ≡ c
+  same_code x c e = cc
+code_at (x ∷ cs) (y ∷ ys) h (suc k) c e = code_at cs ys h.1 k c e
+code_at [] (y ∷ ys) h k c e = absurd h
+code_at (x ∷ cs) [] h k c e = absurd h
+
+-- a comprehension of a checked program is the code of the tree's comprehension
+pub checked_code : (program : Main) (checked : CheckedProgram) → checked_program program ≡ Ok checked → (k : ℕ) (c : ComprehensionCode) → slice_get checked.comprehensions k ≡ Some c
+    → (comprehension : Comprehension) × (slice_get (comprehensions_in (after_main start program).parts) k ≡ Some comprehension) × IsCodeOf c comprehension
+checked_code program checked is k c e =
+    code_at checked.comprehensions _ ((result_found (checked_program program) (Ok checked) is (codes_found program)).same.1) k c e
 
 -- THE NUMBER OF PARTS of a sort other than scopes is at most the number of items
 module _ {A : Type 0} (sort : Part → Option A) (no_scope : (parent : ℕ) → sort (ScopePart parent) ≡ None) where

@@ -1,8 +1,12 @@
+pub mod AccessLemmas
 pub mod BindingLemmas
 pub mod BodyLemmas
 pub mod CheckedLemmas
+pub mod CodeLemmas
+pub mod ComprehensionLemmas
 pub mod ConflictLemmas
 pub mod FaultLemmas
+pub mod FrameLemmas
 pub mod LoopLemmas
 pub mod ModeLemmas
 pub mod NameLemmas

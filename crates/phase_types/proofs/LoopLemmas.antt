@@ -18,7 +18,7 @@ use Rattle.liszt_tree.specs.Tree.{expression, links_of, statement_tree, Main, no
 use Rattle.liszt_tree.specs.declared.tree.Link.{Link}
 use Rattle.phase_types.specs.declared.resolution.ChainCode.{ChainCode}
 use Rattle.phase_types.specs.declared.resolution.TypedCode.{TypedCode}
-use Rattle.phase_types.specs.Internal.Results.{some_block, resolved_block, resolved_else, main_repetition_code, ExtendsNames, paired, with_names, repetition_code, members_code}
+use Rattle.phase_types.specs.Internal.Results.{some_block, resolved_block, resolved_else, main_choice_code, main_repetition_code, ExtendsNames, paired, with_names, choice_code, repetition_code, members_code}
 use Rattle.liszt_tree.specs.declared.tree.Item.{Item}
 use Rattle.resolved_code.specs.declared.items.BlockCode.{BlockCode}
 use Rattle.resolved_code.specs.declared.items.ItemCode.{ItemCode}
@@ -160,19 +160,11 @@ module _ (names : Names) (frame : Frame) where
       → Gives (resolved_statement names frame (If place test first second has_else)) (Err refused)
   first_stops place test first second has_else code later refused e h = goes_on _ (Err refused) e (stops (resolved_body names (with_accesses later frame) [] first) _ refused h)
 
-  pub second_stops : (place : Place) (test : Expression) (first second : Body) (has_else : Bool) (code : TruthCode) (later : Accesses) (block : List StatementCode) (next : Frame)
-      (refused : Refused ProgramFault) → resolved_truth names frame.accesses test ≡ Ok (code, later) → resolved_body names (with_accesses later frame) [] first ≡ Ok (block, next)
-      → Gives (resolved_body names next [] second) (Err refused) → Gives (resolved_statement names frame (If place test first second has_else)) (Err refused)
-  second_stops place test first second has_else code later block next refused e f h =
-      goes_on _ (Err refused) e (goes_on _ (Err refused) f (stops (resolved_body names next [] second) _ refused h))
-
-  pub both_done : (place : Place) (test : Expression) (first second : Body) (has_else : Bool) (c : TruthCode) (later : Accesses) (block other : List StatementCode) (next last : Frame)
-      → resolved_truth names frame.accesses test ≡ Ok (c, later) → resolved_body names (with_accesses later frame) [] first ≡ Ok (block, next)
-      → resolved_body names next [] second ≡ Ok (other, last) → resolved_statement names frame (If place test first second has_else) ≡ Ok (code.If c block other, names, last)
-  both_done place test first second has_else c later block other next last e f g =
-      ap (λ r. r >>= λ v. resolved_body names (with_accesses v.1 frame) [] first >>= λ a. resolved_body names a.1 [] second >>= λ b. Ok (code.If v.0 a.0 b.0, names, b.1)) e
-      ∙ ap (λ r. r >>= λ a. resolved_body names a.1 [] second >>= λ b. Ok (code.If c a.0 b.0, names, b.1)) f
-      ∙ ap (λ r. r >>= λ b. Ok (code.If c block b.0, names, b.1)) g
+  pub chooses : (place : Place) (test : Expression) (first second : Body) (has_else : Bool) (c : TruthCode) (later : Accesses) (block : List StatementCode) (next : Frame)
+      (answer : Result (StatementCode × Names × Frame) (Refused ProgramFault)) → resolved_truth names frame.accesses test ≡ Ok (c, later)
+      → resolved_body names (with_accesses later frame) [] first ≡ Ok (block, next) → Gives (choice_code names next c block second) answer
+      → Gives (resolved_statement names frame (If place test first second has_else)) answer
+  chooses place test first second has_else c later block next answer e f h = goes_on _ answer e (goes_on _ answer f h)
 
   pub repeats : (place : Place) (test : Expression) (body : Body) (c : TruthCode) (later : Accesses) (answer : Result (StatementCode × Names × Frame) (Refused ProgramFault))
       → resolved_truth names frame.accesses test ≡ Ok (c, later) → Gives (repetition_code names (with_accesses later frame) place c body) answer
@@ -264,11 +256,10 @@ main_names_remain first state i c next h e =
 module _ (state : MainState) where
   if_is : (place : Place) (test : Expression) (first second : Main) (has_else : Bool)
       → resolved_item state (MainIf place test first second has_else)
-      ≡ (main_truth state.names test >>= λ v. resolved_block state first >>= λ b. resolved_else b.1 second has_else >>= λ s. Ok (main.If v b.0 s.0, s.1))
+      ≡ (main_truth state.names test >>= λ v. resolved_block state first >>= λ b. main_choice_code b.1 v b.0 second has_else)
   if_is place test first second has_else = same_next (main_truth state.names test) _ _ (λ v. sym (bind_assoc (resolved_items (opens_block state) [] first) _ _))
 
-  while_is : (place : Place) (test : Expression) (body : Main)
-      → resolved_item state (MainWhile place test body) ≡ (main_truth state.names test >>= λ v. main_repetition_code state place v body)
+  pub while_is : (place : Place) (test : Expression) (body : Main) → resolved_item state (MainWhile place test body) ≡ main_repetition_code state place test body
   while_is place test body = same_next (main_truth state.names test) _ _ (λ v. sym (bind_assoc (resolved_items (opens_block state) [] body) _ _))
 
   pub main_first_stops : (place : Place) (test : Expression) (first second : Main) (has_else : Bool) (v : TruthCode) (refused : Refused ProgramFault) → main_truth state.names test ≡ Ok v
@@ -276,24 +267,11 @@ module _ (state : MainState) where
   main_first_stops place test first second has_else v refused e h =
       subst (λ r. Gives r (Err refused)) (sym (if_is place test first second has_else)) (goes_on _ (Err refused) e (stops (resolved_block state first) _ refused h))
 
-  pub main_second_stops : (place : Place) (test : Expression) (first second : Main) (has_else : Bool) (v : TruthCode) (b : BlockCode) (next : MainState) (refused : Refused ProgramFault)
-      → main_truth state.names test ≡ Ok v → resolved_block state first ≡ Ok (b, next) → Gives (resolved_else next second has_else) (Err refused)
-      → Gives (resolved_item state (MainIf place test first second has_else)) (Err refused)
-  main_second_stops place test first second has_else v b next refused e f h =
-      subst (λ r. Gives r (Err refused)) (sym (if_is place test first second has_else)) (goes_on _ (Err refused) e (goes_on _ (Err refused) f (stops (resolved_else next second has_else) _ refused h)))
-
-  pub main_both_done : (place : Place) (test : Expression) (first second : Main) (has_else : Bool) (v : TruthCode) (b : BlockCode) (o : Option BlockCode) (next last : MainState)
-      → main_truth state.names test ≡ Ok v → resolved_block state first ≡ Ok (b, next) → resolved_else next second has_else ≡ Ok (o, last)
-      → resolved_item state (MainIf place test first second has_else) ≡ Ok (main.If v b o, last)
-  main_both_done place test first second has_else v b o next last e f g =
-      if_is place test first second has_else
-      ∙ ap (λ r. r >>= λ v. resolved_block state first >>= λ b. resolved_else b.1 second has_else >>= λ s. Ok (main.If v b.0 s.0, s.1)) e
-      ∙ ap (λ r. r >>= λ b. resolved_else b.1 second has_else >>= λ s. Ok (main.If v b.0 s.0, s.1)) f
-      ∙ ap (λ r. r >>= λ s. Ok (main.If v b s.0, s.1)) g
-
-  pub main_repeats : (place : Place) (test : Expression) (body : Main) (v : TruthCode) (answer : Result (ItemCode × MainState) (Refused ProgramFault)) → main_truth state.names test ≡ Ok v
-      → Gives (main_repetition_code state place v body) answer → Gives (resolved_item state (MainWhile place test body)) answer
-  main_repeats place test body v answer e h = subst (λ r. Gives r answer) (sym (while_is place test body)) (goes_on _ answer e h)
+  pub main_chooses : (place : Place) (test : Expression) (first second : Main) (has_else : Bool) (v : TruthCode) (b : BlockCode) (next : MainState)
+      (answer : Result (ItemCode × MainState) (Refused ProgramFault)) → main_truth state.names test ≡ Ok v → resolved_block state first ≡ Ok (b, next)
+      → Gives (main_choice_code next v b second has_else) answer → Gives (resolved_item state (MainIf place test first second has_else)) answer
+  main_chooses place test first second has_else v b next answer e f h =
+      subst (λ r. Gives r answer) (sym (if_is place test first second has_else)) (goes_on _ answer e (goes_on _ answer f h))
 
   pub else_is : (i : MainItem) (rest : Main) (has_else : Bool) → resolved_else state (item i rest) has_else ≡ (resolved_block state (item i rest) >>= λ b. Ok (Some b.0, b.1))
   else_is i rest has_else = sym (bind_assoc (resolved_items (opens_block state) [] (item i rest)) _ _)

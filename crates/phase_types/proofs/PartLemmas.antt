@@ -7,13 +7,13 @@ use Rattle.std.specs.Prelude.{Option, Some, slice_get, if◌then◌else◌}
 use Rattle.liszt_tree.specs.Tree.{MainItem, MainField, MainVar, MainAssign, MainIf, MainWhile, MainFor, Print, Main, no_item, item}
 use Rattle.phase_types.specs.Environments.{Part, Site, IsPrefix, block_start, after_block, has_else_block, after_item, after_main}
 
-same_parts : (before : List Part) → IsPrefix before before
+pub same_parts : (before : List Part) → IsPrefix before before
 same_parts before = record { rest = []; appended = sym (append-nil before) }
 
 pub next_part : (before : List Part) (part : Part) → IsPrefix before (before ++ part ∷ [])
 next_part before part = record { rest = part ∷ []; appended = refl }
 
-prefix_of_prefix : {a b c : List Part} → IsPrefix a b → IsPrefix b c → IsPrefix a c
+pub prefix_of_prefix : {a b c : List Part} → IsPrefix a b → IsPrefix b c → IsPrefix a c
 prefix_of_prefix {a = a} r s = record { rest = r.rest ++ s.rest; appended = s.appended ∙ ap (λ parts. parts ++ s.rest) r.appended ∙ append_assoc a r.rest s.rest }
 
 either_way : (b : Bool) (before : List Part) (this other : Site) → IsPrefix before this.parts → IsPrefix before other.parts
@@ -40,7 +40,7 @@ mutual
   main_is_prefix site (item i rest) = prefix_of_prefix (item_is_prefix site i) (main_is_prefix (after_item site i) rest)
 
 -- the item after a list is at the index that is its length
-at_length : {A : Type 0} (front : List A) (x : A) (rest : List A) → slice_get (front ++ x ∷ rest) (length front) ≡ Some x
+pub at_length : {A : Type 0} (front : List A) (x : A) (rest : List A) → slice_get (front ++ x ∷ rest) (length front) ≡ Some x
 at_length [] x rest = refl
 at_length (y ∷ front) x rest = at_length front x rest
 

@@ -1,6 +1,8 @@
 pub mod Checked
+pub mod CheckedParts
 pub mod Environments
 pub mod Internal
+pub mod Layouts
 pub mod Resolve
 pub mod Typed
 pub mod Types

@@ -1,13 +1,16 @@
 //! Worked cases of the definitions, which the checker computes. Each function does nothing; its contract is the case.
 #![allow(dead_code)]
 
-ghost use Rattle.std.specs.Prelude.{◌≡◌, Some, None, [], ◌∷◌, codes, map};
+ghost use Rattle.std.specs.Prelude.{◌≡◌, Some, None, [], ◌∷◌, codes, map, true, false, Ok};
 ghost use Rattle.liszt_base.specs.declared.accesses.Mode.TheVariants.{Read, Reduce};
 ghost use Rattle.liszt_base.specs.declared.answers.ProgramWhat.TheVariants.{NameUnknown, NameTwice, TypeMismatch, ScalarWrite, BuiltinWrite};
 ghost use Rattle.liszt_base.specs.declared.elements.Kind.TheVariants.{Vertex, Edge, Face, Cell};
 ghost use Rattle.liszt_base.specs.declared.elements.Op.TheVariants.{Add};
 ghost use Rattle.liszt_tree.specs.Trees.{degrees};
 ghost use Rattle.phase_types.specs.Internal.Cases.{at, fault, conflict_between, adds_itself, adds_and_multiplies, adds_and_writes, adds_and_takes, unknown_name, name_twice, truth_as_number, third_operand, first_operand, writes_scalar, adds_scalar_to_itself, writes_mark, edges_of_edge, unknown_in_set, edge_for_vertex, blocks, column, reads_only, reads_then_writes, scalar_as_target, scalar_as_argument, visits_again, built_in_as_name, name_of_other_block, writes_scalar_unknown, truth_for_built_in, edge_and_vertex, flipped_vertex};
+ghost use Rattle.phase_types.specs.Internal.ResolvedCases.{ends_counted, ends_counted_code, fields_of_blocks, fields_of_blocks_code, slots_of_blocks, slots_of_blocks_code, slots_layout, sets_local, adds_to_scalar, field_at};
+ghost use Rattle.phase_types.specs.Layouts.{number_fits, statement_fits};
+ghost use Rattle.phase_types.specs.Checked.{checked_program};
 ghost use Rattle.phase_types.specs.Environments.{fields_of, scalars_of, comprehensions_of, scopes_of};
 ghost use Rattle.phase_types.specs.Walk.{check_fault, mode_of, scalar_mode_of};
 
@@ -71,4 +74,23 @@ fn modes()
     ensures no_comprehension { mode_of degrees 1 6 ≡ None }
     ensures scalar { scalar_mode_of adds_scalar_to_itself 0 0 ≡ Some (Reduce Add) }
     ensures degrees_typed { check_fault degrees ≡ None }
+{}
+
+/// Checked programs, written out: the head for the head, and the tail for the tail; numbers of fields, scopes and comprehensions in the
+/// order of the text; a slot of its own for each declaration.
+fn checked_programs()
+    ensures ends { checked_program ends_counted ≡ Ok ends_counted_code }
+    ensures fields { checked_program fields_of_blocks ≡ Ok fields_of_blocks_code }
+    ensures slots { checked_program slots_of_blocks ≡ Ok slots_of_blocks_code }
+{}
+
+/// Code fits a layout up to its last slot and scalar, and a field at an element of its kind; the number 5 is no field.
+fn fitting_code()
+    ensures last_slot { statement_fits slots_layout (sets_local 1) ≡ true }
+    ensures no_slot { statement_fits slots_layout (sets_local 2) ≡ false }
+    ensures last_scalar { statement_fits slots_layout (adds_to_scalar 0) ≡ true }
+    ensures no_scalar { statement_fits slots_layout (adds_to_scalar 1) ≡ false }
+    ensures right_kind { number_fits slots_layout (field_at 4 3) ≡ true }
+    ensures wrong_kind { number_fits slots_layout (field_at 4 0) ≡ false }
+    ensures no_field { number_fits slots_layout (field_at 5 3) ≡ false }
 {}

@@ -2,10 +2,12 @@
 
 ghost use Rattle.std.specs.Prelude.{◌≡◌, map};
 ghost use Rattle.liszt_base.specs.Gives.{Gives};
-ghost use Rattle.liszt_tree.specs.Tree.{expression, links_of};
+ghost use Rattle.liszt_tree.specs.Tree.{expression, links_of, Call, Neg, Not};
 ghost use Rattle.phase_types.specs.Internal.Results.{paired, resolved_field, state_of};
 ghost use Rattle.phase_types.specs.Resolve as Resolve;
 ghost use Rattle.phase_types.specs.Walk as Walk;
+ghost use Rattle.phase_types.specs.declared.resolution.TypedCode.TheVariants as Typed;
+ghost use Rattle.resolved_code.specs.declared.expressions.NumberCode.TheVariants as number;
 
 use crate::names::Names;
 use crate::resolution::{ChainCode, Resolution, TypedCode};
@@ -15,7 +17,7 @@ use crate::values::{
     whole_chain,
 };
 use liszt_base::{Kind, Mode, Place, ProgramFault, ProgramWhat, Refused};
-use liszt_tree::{Expr, Link};
+use liszt_tree::{Expr, Fun, Link};
 use resolved_code::{AccessAt, ElementCode, FirstAccesses, NumberCode, Subject, TruthCode};
 use std::alloc::Global;
 
@@ -100,6 +102,15 @@ fn resolve_name(
     }
 }
 
+/// A number as it is written.
+fn constant(value: i64) -> TypedCode
+    ensures { result ≡ Typed.Number (number.Constant value) }
+{
+    TypedCode::Number {
+        code: NumberCode::Constant { value },
+    }
+}
+
 /// An expression with the visible names, with its accesses added.
 #[cycle(resolve)]
 pub fn resolve_expression(
@@ -112,9 +123,7 @@ pub fn resolve_expression(
         (paired result accesses.new) }
 {
     match e {
-        Expr::Number { value, .. } => Ok(TypedCode::Number {
-            code: NumberCode::Constant { value: *value },
-        }),
+        Expr::Number { value, .. } => Ok(constant(*value)),
         Expr::Name { place, name } => {
             resolve_name(accesses, *place, names.resolution(name.as_slice()))
         }
@@ -123,22 +132,15 @@ pub fn resolve_expression(
             resolve_field(alloc, names, accesses, *place, found, arg.get())
         }
         Expr::Call { place, fun, arg } => {
-            let operand = resolve_expression(alloc, names, accesses, arg.get())?;
-            called_code(alloc, *place, *fun, operand)
+            resolve_call(alloc, names, accesses, *place, *fun, arg.get())
         }
         Expr::Towards { place, arg, to } => {
             let first = resolve_expression(alloc, names, accesses, arg.get())?;
             let second = resolve_expression(alloc, names, accesses, to.get())?;
             towards_code(alloc, *place, first, second)
         }
-        Expr::Neg { place, arg } => {
-            let operand = resolve_expression(alloc, names, accesses, arg.get())?;
-            negated(alloc, *place, operand)
-        }
-        Expr::Not { place, arg } => {
-            let operand = resolve_expression(alloc, names, accesses, arg.get())?;
-            inverted(alloc, *place, operand)
-        }
+        Expr::Neg { place, arg } => resolve_negation(alloc, names, accesses, *place, arg.get()),
+        Expr::Not { place, arg } => resolve_inversion(alloc, names, accesses, *place, arg.get()),
         Expr::Chain { first, rest, .. } => {
             let operand = resolve_expression(alloc, names, accesses, first.get())?;
             let chain = first_of_chain(alloc, operand);
@@ -155,6 +157,55 @@ pub fn resolve_expression(
             comparison_code(*place, *rel, first, second)
         }
     }
+}
+
+/// A call of a function.
+#[cycle(resolve)]
+fn resolve_call(
+    alloc: Global,
+    names: &Names,
+    accesses: &mut Option<FirstAccesses>,
+    place: Place,
+    fun: Fun,
+    arg: &Expr,
+) -> Resolved<TypedCode>
+    ensures { Gives (Resolve.resolved_expression names.now accesses.old
+        (Call place fun (expression arg.now))) (paired result accesses.new) }
+{
+    let operand = resolve_expression(alloc, names, accesses, arg)?;
+    called_code(alloc, place, fun, operand)
+}
+
+/// The negation of an expression.
+#[cycle(resolve)]
+fn resolve_negation(
+    alloc: Global,
+    names: &Names,
+    accesses: &mut Option<FirstAccesses>,
+    place: Place,
+    arg: &Expr,
+) -> Resolved<TypedCode>
+    ensures { Gives (Resolve.resolved_expression names.now accesses.old
+        (Neg place (expression arg.now))) (paired result accesses.new) }
+{
+    let operand = resolve_expression(alloc, names, accesses, arg)?;
+    negated(alloc, place, operand)
+}
+
+/// The logical negation of an expression.
+#[cycle(resolve)]
+fn resolve_inversion(
+    alloc: Global,
+    names: &Names,
+    accesses: &mut Option<FirstAccesses>,
+    place: Place,
+    arg: &Expr,
+) -> Resolved<TypedCode>
+    ensures { Gives (Resolve.resolved_expression names.now accesses.old
+        (Not place (expression arg.now))) (paired result accesses.new) }
+{
+    let operand = resolve_expression(alloc, names, accesses, arg)?;
+    inverted(alloc, place, operand)
 }
 
 /// A field at an argument, by what its name denotes.

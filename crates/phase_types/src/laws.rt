@@ -4,8 +4,10 @@ ghost use Rattle.std.specs.Prelude.{◌≡◌, ◌≤◌, ℕ, Some, None, List,
 ghost use Rattle.liszt_base.specs.declared.answers.ProgramFault.{ProgramFault};
 ghost use Rattle.liszt_tree.specs.Tree.{Expression, Main, MainItem, main_nodes};
 ghost use Rattle.phase_types.specs.Checked.{CheckedProgram, checked_program, item_count, HasPartsOf, IsWithin};
+ghost use Rattle.phase_types.specs.CheckedParts.{HasModesInRange, HasAllowedModes, HasLowerParents};
 ghost use Rattle.phase_types.specs.Environments.{Environment, Binding, binding_of, Site, start, Part, FieldPart, ScalarPart, ComprehensionPart, ScopePart, Comprehension, IsPrefix, DenotesPart, BindsParts, block_start, after_item, after_main, fields_in, scalars_in, comprehensions_in, scopes_in};
 ghost use Rattle.phase_types.specs.declared.info.FieldInfo.{FieldInfo as Info};
+ghost use Rattle.phase_types.specs.Layouts.{AllBodiesFit};
 ghost use Rattle.phase_types.specs.Typed.{IsTyped, ItemFits, MainFits};
 ghost use Rattle.phase_types.specs.Types.{HasType, ValueType, type_of};
 ghost use Rattle.phase_types.specs.Walk.{check_fault};
@@ -84,4 +86,22 @@ pub fn checked_programs_have_their_parts()
     ensures within { (program : Main) (checked : CheckedProgram)
         → checked_program program ≡ Ok checked → IsWithin (item_count program) checked }
     ensures items { (program : Main) → item_count program ≤ main_nodes program }
+{}
+
+/// Each comprehension of a checked program accesses fields and scalars that the program has: it writes no scalar, and only reads a
+/// built-in field. Each scope but the outermost is enclosed by one of a lower number.
+pub fn checked_parts_are_in_range()
+    ensures modes { (program : Main) (checked : CheckedProgram)
+        → checked_program program ≡ Ok checked → HasModesInRange checked }
+    ensures allowed { (program : Main) (checked : CheckedProgram)
+        → checked_program program ≡ Ok checked → HasAllowedModes checked }
+    ensures scopes { (program : Main) (checked : CheckedProgram)
+        → checked_program program ≡ Ok checked → HasLowerParents checked.scopes }
+{}
+
+/// The body of each comprehension of a checked program fits its frame: each slot is one of the frame, slot 0 is of the kind of the
+/// comprehension, each element is of the kind that is wanted there, and each field and scalar is one of the program.
+pub fn checked_bodies_fit()
+    ensures bodies { (program : Main) (checked : CheckedProgram)
+        → checked_program program ≡ Ok checked → AllBodiesFit checked }
 {}

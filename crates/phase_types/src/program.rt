@@ -2,9 +2,9 @@
 
 ghost use Rattle.std.specs.Prelude.{◌≡◌, ◌∷◌, ◌++◌, [], OnOk, map};
 ghost use Rattle.liszt_base.specs.Gives.{Gives};
-ghost use Rattle.liszt_tree.specs.Tree.{body_of, expression, item_tree, main_of, statement_tree};
+ghost use Rattle.liszt_tree.specs.Tree.{body_of, expression, item_tree, main_of, statement_tree, MainAssign, Print};
 ghost use Rattle.phase_types.specs.Checked as Checked;
-ghost use Rattle.phase_types.specs.Internal.Results.{ExtendsNames, comprehension_item, field_item, main_repetition_code, paired, resolved_block, resolved_else, scalar_item, some_block};
+ghost use Rattle.phase_types.specs.Internal.Results.{ExtendsNames, comprehension_item, field_item, main_choice_code, main_repetition_code, paired, resolved_block, resolved_else, scalar_item, some_block};
 
 use crate::expression::{resolve_number, resolve_truth};
 use crate::info::FieldInfo;
@@ -14,9 +14,9 @@ use crate::state::MainState;
 use crate::statement::{new_name, resolve_comprehension};
 use crate::values::{Resolved, boxed, fails, push};
 use liszt_base::{ByteList, Kind, Place, ProgramWhat, Refused};
-use liszt_tree::{Expr, Item, Stmt};
+use liszt_tree::{Expr, How, Item, Name, Stmt};
 use resolved_code::{BlockCode, ItemCode, ItemCodes, NumberCode, TruthCode};
-use sqlite_items::Items;
+use sqlite_items::{Boxed, Items};
 use std::alloc::Global;
 
 /// A number of the main program.
@@ -33,6 +33,14 @@ fn main_truth(alloc: Global, names: &Names, e: &Expr) -> Resolved<TruthCode>
 {
     let mut accesses = None;
     resolve_truth(alloc, names, &mut accesses, e)
+}
+
+/// The test of an `if` of the main program.
+fn main_condition(alloc: Global, names: &Names, e: &Expr) -> Resolved<Boxed<TruthCode>>
+    ensures { Gives (Checked.main_truth names.now (expression e.now)) result }
+{
+    let test = main_truth(alloc, names, e)?;
+    boxed(alloc, test)
 }
 
 /// Declares a field, whose number is returned.
@@ -101,7 +109,7 @@ fn assigned_scalar(place: Place, found: Option<Resolution>) -> Resolved<u32>
 fn resolve_field_item(
     alloc: Global,
     state: &mut MainState,
-    name: &[u8],
+    name: &Name,
     at: Place,
     kind: Kind,
     init: &Expr,
@@ -110,7 +118,7 @@ fn resolve_field_item(
         (paired result state.new) }
 {
     let init = main_number(alloc, &state.names, init)?;
-    match declare_field(alloc, state, name, at, kind) {
+    match declare_field(alloc, state, name.as_slice(), at, kind) {
         Ok(field) => Ok(ItemCode::Field { field, init }),
         Err(refused) => Err(refused),
     }
@@ -120,7 +128,7 @@ fn resolve_field_item(
 fn resolve_scalar_item(
     alloc: Global,
     state: &mut MainState,
-    name: &[u8],
+    name: &Name,
     at: Place,
     init: &Expr,
 ) -> Resolved<ItemCode>
@@ -128,17 +136,48 @@ fn resolve_scalar_item(
         (paired result state.new) }
 {
     let init = main_number(alloc, &state.names, init)?;
-    match declare_scalar(alloc, state, name, at) {
+    match declare_scalar(alloc, state, name.as_slice(), at) {
         Ok(scalar) => Ok(ItemCode::Var { scalar, init }),
         Err(refused) => Err(refused),
     }
+}
+
+/// An assignment to a scalar.
+fn resolve_assignment(
+    alloc: Global,
+    state: &mut MainState,
+    place: Place,
+    name: &Name,
+    how: How,
+    value: &Expr,
+) -> Resolved<ItemCode>
+    ensures { Gives (Checked.resolved_item state.old
+        (MainAssign place name.now how (expression value.now))) (paired result state.new) }
+{
+    let scalar = assigned_scalar(place, state.names.resolution(name.as_slice()))?;
+    let value = main_number(alloc, &state.names, value)?;
+    Ok(ItemCode::Assign { scalar, how, value })
+}
+
+/// A number that is printed.
+fn resolve_print(
+    alloc: Global,
+    state: &mut MainState,
+    place: Place,
+    value: &Expr,
+) -> Resolved<ItemCode>
+    ensures { Gives (Checked.resolved_item state.old (Print place (expression value.now)))
+        (paired result state.new) }
+{
+    let value = main_number(alloc, &state.names, value)?;
+    Ok(ItemCode::Print { place, value })
 }
 
 /// A comprehension, which is added to those of the program.
 fn resolve_comprehension_item(
     alloc: Global,
     state: &mut MainState,
-    name: &[u8],
+    name: &Name,
     at: Place,
     over: Kind,
     body: &[Stmt],
@@ -146,7 +185,7 @@ fn resolve_comprehension_item(
     ensures { Gives (comprehension_item state.old name.now at over
         (body_of (map statement_tree body.now))) (paired result state.new) }
 {
-    let code = resolve_comprehension(alloc, &mut state.names, name, at, over, body)?;
+    let code = resolve_comprehension(alloc, &mut state.names, name.as_slice(), at, over, body)?;
     let Ok(comprehension) = u32::try_from(state.comprehensions.len()) else {
         return Err(Refused::NoMemory);
     };
@@ -166,24 +205,14 @@ fn resolve_item(alloc: Global, state: &mut MainState, i: &Item) -> Resolved<Item
             kind,
             init,
             ..
-        } => resolve_field_item(alloc, state, name.as_slice(), *at, *kind, init),
-        Item::Var { name, at, init, .. } => {
-            resolve_scalar_item(alloc, state, name.as_slice(), *at, init)
-        }
+        } => resolve_field_item(alloc, state, name, *at, *kind, init),
+        Item::Var { name, at, init, .. } => resolve_scalar_item(alloc, state, name, *at, init),
         Item::Assign {
             place,
             name,
             how,
             value,
-        } => {
-            let scalar = assigned_scalar(*place, state.names.resolution(name.as_slice()))?;
-            let value = main_number(alloc, &state.names, value)?;
-            Ok(ItemCode::Assign {
-                scalar,
-                how: *how,
-                value,
-            })
-        }
+        } => resolve_assignment(alloc, state, *place, name, *how, value),
         Item::If {
             test,
             yes,
@@ -191,18 +220,11 @@ fn resolve_item(alloc: Global, state: &mut MainState, i: &Item) -> Resolved<Item
             has_else,
             ..
         } => {
-            let test = main_truth(alloc, &state.names, test)?;
-            let test = boxed(alloc, test)?;
+            let test = main_condition(alloc, &state.names, test)?;
             let first = resolve_block(alloc, state, yes.as_slice())?;
-            let second = resolve_else(alloc, state, no.as_slice(), *has_else)?;
-            Ok(ItemCode::If {
-                test: test.into_inner(),
-                first,
-                second,
-            })
+            resolve_choice(alloc, state, no.as_slice(), *has_else, test, first)
         }
         Item::While { place, test, body } => {
-            let test = main_truth(alloc, &state.names, test)?;
             resolve_repetition(alloc, state, *place, body.as_slice(), test)
         }
         Item::For {
@@ -211,29 +233,47 @@ fn resolve_item(alloc: Global, state: &mut MainState, i: &Item) -> Resolved<Item
             over,
             body,
             ..
-        } => resolve_comprehension_item(alloc, state, name.as_slice(), *at, *over, body.as_slice()),
-        Item::Print { place, value } => {
-            let value = main_number(alloc, &state.names, value)?;
-            Ok(ItemCode::Print {
-                place: *place,
-                value,
-            })
-        }
+        } => resolve_comprehension_item(alloc, state, name, *at, *over, body.as_slice()),
+        Item::Print { place, value } => resolve_print(alloc, state, *place, value),
     }
 }
 
-/// A `while` of a resolved test.
+/// An `if` of a resolved test and a resolved first block.
+#[cycle(items)]
+fn resolve_choice(
+    alloc: Global,
+    state: &mut MainState,
+    items: &[Item],
+    has_else: bool,
+    test: Boxed<TruthCode>,
+    first: BlockCode,
+) -> Resolved<ItemCode>
+    ensures { Gives (main_choice_code state.old test first (main_of (map item_tree items.now))
+        has_else) (paired result state.new) }
+{
+    match resolve_else(alloc, state, items, has_else) {
+        Ok(second) => Ok(ItemCode::If {
+            test: test.into_inner(),
+            first,
+            second,
+        }),
+        Err(refused) => Err(refused),
+    }
+}
+
+/// A `while`.
 #[cycle(items)]
 fn resolve_repetition(
     alloc: Global,
     state: &mut MainState,
     place: Place,
     body: &[Item],
-    test: TruthCode,
+    test: &Expr,
 ) -> Resolved<ItemCode>
-    ensures { Gives (main_repetition_code state.old place test (main_of (map item_tree body.now)))
-        (paired result state.new) }
+    ensures { Gives (main_repetition_code state.old place (expression test.now)
+        (main_of (map item_tree body.now))) (paired result state.new) }
 {
+    let test = main_truth(alloc, &state.names, test)?;
     match resolve_block(alloc, state, body) {
         Ok(body) => Ok(ItemCode::While { place, test, body }),
         Err(refused) => Err(refused),

@@ -4,7 +4,7 @@ use sqlite_items::Items;
 
 /// What a visible name denotes: a field by its number, with the kind of its elements; a scalar of the main program by its number; a
 /// local number by its slot; or an element by its slot, with its kind.
-#[derive(Clone, Copy, Debug, PartialEq, Eq)]
+#[derive(Clone, Copy)]
 pub enum Resolution {
     Field { field: u32, kind: Kind },
     Scalar { scalar: u32 },
@@ -13,7 +13,7 @@ pub enum Resolution {
 }
 
 /// A resolved expression by its type; an element with its kind.
-#[derive(Debug, Drop)]
+#[derive(Drop)]
 pub enum TypedCode {
     Number { code: NumberCode },
     Truth { code: TruthCode },
@@ -21,7 +21,7 @@ pub enum TypedCode {
 }
 
 /// The operands of a chain so far. Elements have no operator.
-#[derive(Debug, Drop)]
+#[derive(Drop)]
 pub enum ChainCode {
     Numbers {
         first: NumberCode,

@@ -1,9 +1,10 @@
 //! Statements of the body of a comprehension, and comprehensions, resolved.
 
+ghost use Rattle.std.specs.Option.{option_map};
 ghost use Rattle.std.specs.Prelude.{◌≡◌, ◌∷◌, ◌++◌, [], OnOk, length, map, take};
 ghost use Rattle.liszt_base.specs.Gives.{Gives};
-ghost use Rattle.liszt_tree.specs.Tree.{expression, body_of, statement_tree};
-ghost use Rattle.phase_types.specs.Internal.Results.{comprehension_code, members_code, paired, repetition_code, resolved_loop, state_of, with_names};
+ghost use Rattle.liszt_tree.specs.Tree.{expression, body_of, statement_tree, Assign};
+ghost use Rattle.phase_types.specs.Internal.Results.{choice_code, comprehension_code, members_code, paired, repetition_code, resolved_loop, state_of, with_names};
 ghost use Rattle.phase_types.specs.Resolve as Resolve;
 ghost use Rattle.phase_types.specs.Walk as Walk;
 
@@ -15,12 +16,12 @@ use crate::names::Names;
 use crate::resolution::Resolution;
 use crate::values::{Resolved, boxed, element_of_kind, element_with_set, fails, kind_of, push};
 use liszt_base::{Kind, Mode, Op, Place, ProgramWhat, Refused, SetName};
-use liszt_tree::{Expr, How, Stmt};
+use liszt_tree::{Expr, How, Name, Stmt};
 use resolved_code::{
     ComprehensionCode, ElementCode, FirstAccesses, StatementCode, StatementCodes, Subject,
     TruthCode,
 };
-use sqlite_items::Items;
+use sqlite_items::{Boxed, Items};
 use std::alloc::Global;
 
 /// The first number of a declared field.
@@ -189,6 +190,44 @@ fn resolve_field_assignment(
     })
 }
 
+/// An assignment to a name, with or without an argument.
+fn resolve_assign(
+    alloc: Global,
+    names: &Names,
+    frame: &mut Frame,
+    place: Place,
+    name: &Name,
+    how: How,
+    target: &Option<Expr>,
+    value: &Expr,
+) -> Resolved<StatementCode>
+    ensures { Gives (Resolve.resolved_statement names.now frame.old (Assign place name.now
+        (option_map expression target.now) how (expression value.now)))
+        (with_names result names.now frame.new) }
+{
+    let found = names.resolution(name.as_slice());
+    match target {
+        Some(target) => {
+            resolve_field_assignment(alloc, names, frame, place, how, target, value, found)
+        }
+        None => resolve_assignment(alloc, names, frame, place, how, value, found),
+    }
+}
+
+/// The test of an `if`.
+fn resolve_condition(
+    alloc: Global,
+    names: &Names,
+    accesses: &mut Option<FirstAccesses>,
+    test: &Expr,
+) -> Resolved<Boxed<TruthCode>>
+    ensures { Gives (Resolve.resolved_truth names.now accesses.old (expression test.now))
+        (paired result accesses.new) }
+{
+    let test = resolve_truth(alloc, names, accesses, test)?;
+    boxed(alloc, test)
+}
+
 /// The declaration of a local number.
 fn resolve_var(
     alloc: Global,
@@ -244,33 +283,14 @@ fn resolve_statement(
         Stmt::Assign {
             place,
             name,
-            target: Some(target),
+            target,
             how,
             value,
-        } => {
-            let found = names.resolution(name.as_slice());
-            resolve_field_assignment(alloc, names, frame, *place, *how, target, value, found)
-        }
-        Stmt::Assign {
-            place,
-            name,
-            target: None,
-            how,
-            value,
-        } => {
-            let found = names.resolution(name.as_slice());
-            resolve_assignment(alloc, names, frame, *place, *how, value, found)
-        }
+        } => resolve_assign(alloc, names, frame, *place, name, *how, target, value),
         Stmt::If { test, yes, no, .. } => {
-            let test = resolve_truth(alloc, names, &mut frame.accesses, test)?;
-            let test = boxed(alloc, test)?;
+            let test = resolve_condition(alloc, names, &mut frame.accesses, test)?;
             let first = resolve_body(alloc, names, frame, yes.as_slice())?;
-            let second = resolve_body(alloc, names, frame, no.as_slice())?;
-            Ok(StatementCode::If {
-                test: test.into_inner(),
-                first,
-                second,
-            })
+            resolve_choice(alloc, names, frame, no.as_slice(), test, first)
         }
         Stmt::While { place, test, body } => {
             let test = resolve_truth(alloc, names, &mut frame.accesses, test)?;
@@ -287,17 +307,8 @@ fn resolve_statement(
         } => {
             let operand = resolve_expression(alloc, names, &mut frame.accesses, arg)?;
             let arg = element_with_set(*set, *set_at, operand)?;
-            resolve_members(
-                alloc,
-                names,
-                frame,
-                name.as_slice(),
-                *at,
-                *set,
-                *set_at,
-                body.as_slice(),
-                arg,
-            )
+            let body = body.as_slice();
+            resolve_members(alloc, names, frame, name, *at, *set, *set_at, body, arg)
         }
     }
 }
@@ -322,6 +333,29 @@ fn resolve_loop(
     let body = resolve_body(alloc, names, frame, body)?;
     names.truncate(depth);
     Ok((slot, body))
+}
+
+/// An `if` of a resolved test and a resolved first block.
+#[cycle(body)]
+fn resolve_choice(
+    alloc: Global,
+    names: &mut Names,
+    frame: &mut Frame,
+    other: &[Stmt],
+    test: Boxed<TruthCode>,
+    first: StatementCodes,
+) -> Resolved<StatementCode>
+    ensures { Gives (choice_code names.old frame.old test first
+        (body_of (map statement_tree other.now))) (with_names result names.new frame.new) }
+{
+    match resolve_body(alloc, names, frame, other) {
+        Ok(second) => Ok(StatementCode::If {
+            test: test.into_inner(),
+            first,
+            second,
+        }),
+        Err(refused) => Err(refused),
+    }
 }
 
 /// A `while` of a resolved test.
@@ -349,7 +383,7 @@ fn resolve_members(
     alloc: Global,
     names: &mut Names,
     frame: &mut Frame,
-    name: &[u8],
+    name: &Name,
     at: Place,
     set: SetName,
     set_at: Place,
@@ -359,7 +393,7 @@ fn resolve_members(
     ensures { Gives (members_code names.old frame.old name.now at set set_at arg
         (body_of (map statement_tree body.now))) (with_names result names.new frame.new) }
 {
-    match resolve_loop(alloc, names, frame, name, at, kind_of(set), body) {
+    match resolve_loop(alloc, names, frame, name.as_slice(), at, kind_of(set), body) {
         Ok((slot, body)) => Ok(StatementCode::For {
             slot,
             set,

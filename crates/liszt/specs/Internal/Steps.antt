@@ -27,15 +27,23 @@ HasStepCause before now (Err Done) = ⊥
 HasStepCause before now (Err WriteFault) = ⊥
 HasStepCause before now (Err ended) = now ≡ before
 
+-- An input of a command: the files of the shelf, which input it is, and its name.
+pub record InputAt : Type 0 where
+  pub files : Files
+  pub input : Input
+  pub name : List ℕ
+
+abbrev pub input_at : Files → Input → List ℕ → InputAt
+input_at files input name = record { files = files; input = input; name = name }
+
 -- The answer of a step where the shelf exposes its files: the result of the file's bytes, or the file is lost, or
 -- memory is.
-abbrev pub StepGives : {A : Type 0} → Files → Input → List ℕ → (List ℕ → Result A Ended → Type 0)
-    → Tally → Tally → Result A Ended → Type 0
-StepGives files input name HasResult before now (Ok value) =
-    (bytes : List ℕ) × (file files name ≡ Some bytes) × Within input HasResult bytes (Ok value) × (now ≡ before)
-StepGives files input name HasResult before now (Err ended) =
-    (ended ≡ NoMemory) ⊎ (((ended ≡ ReadFault input) × IsLost files before now name)
-    ⊎ ((bytes : List ℕ) × (file files name ≡ Some bytes) × Within input HasResult bytes (Err ended)))
+abbrev pub StepGives : {A : Type 0} → InputAt → (List ℕ → Result A Ended → Type 0) → Tally → Tally → Result A Ended → Type 0
+StepGives at HasResult before now (Ok value) =
+    (bytes : List ℕ) × (file at.files at.name ≡ Some bytes) × Within at.input HasResult bytes (Ok value) × (now ≡ before)
+StepGives at HasResult before now (Err ended) =
+    (ended ≡ NoMemory) ⊎ (((ended ≡ ReadFault at.input) × IsLost at.files before now at.name)
+    ⊎ ((bytes : List ℕ) × (file at.files at.name ≡ Some bytes) × Within at.input HasResult bytes (Err ended)))
 
 -- A result that is a program, by its tree.
 abbrev pub as_tree : Result Program Ended → Result Main Ended

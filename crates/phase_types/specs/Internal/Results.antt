@@ -14,7 +14,7 @@ use Rattle.liszt_base.specs.declared.answers.ProgramFault.{ProgramFault}
 use Rattle.resolved_code.specs.declared.items.BlockCode.{BlockCode}
 use Rattle.resolved_code.specs.declared.items.ItemCode.{ItemCode}
 use Rattle.resolved_code.specs.declared.items.ItemCode.TheVariants as item
-use Rattle.phase_types.specs.Checked.{main_number, declared_field, declared_scalar, with_comprehension_code, MainState, opens_block, closes_block, block_code, else_block, resolved_items}
+use Rattle.phase_types.specs.Checked.{main_number, main_truth, declared_field, declared_scalar, with_comprehension_code, MainState, opens_block, closes_block, block_code, else_block, resolved_items}
 use Rattle.phase_types.specs.Environments.{has_else_block}
 use Rattle.liszt_tree.specs.Tree.{Main, Body, Expression}
 use Rattle.resolved_code.specs.declared.expressions.NumberCode.TheVariants as number
@@ -52,7 +52,12 @@ resolved_loop names frame name at kind body = do
   block ← resolved_body declared.1 declared.2 [] body
   Ok ((declared.0, block.0), block.1)
 
--- statements of a test or an element that is resolved
+-- statements of a test or an element that is resolved; an `if` also of its first block
+abbrev pub choice_code : Names → Frame → TruthCode → List StatementCode → Body → Result (StatementCode × Names × Frame) ProgramFault
+choice_code names frame test first second = do
+  block ← resolved_body names frame [] second
+  Ok (code.If test first block.0, names, block.1)
+
 abbrev pub repetition_code : Names → Frame → Place → TruthCode → Body → Result (StatementCode × Names × Frame) ProgramFault
 repetition_code names frame place test body = do
   block ← resolved_body names frame [] body
@@ -76,11 +81,17 @@ resolved_block state items = do
 abbrev pub resolved_else : MainState → Main → Bool → Result (Option BlockCode × MainState) ProgramFault
 resolved_else state items has_else = else_block (has_else_block items has_else) state (resolved_items (opens_block state) [] items)
 
--- a `while` of a resolved test
-abbrev pub main_repetition_code : MainState → Place → TruthCode → Main → Result (ItemCode × MainState) ProgramFault
+-- an `if` of a resolved test and a resolved first block, and a `while`
+abbrev pub main_choice_code : MainState → TruthCode → BlockCode → Main → Bool → Result (ItemCode × MainState) ProgramFault
+main_choice_code state test first second has_else = do
+  block ← resolved_else state second has_else
+  Ok (item.If test first block.0, block.1)
+
+abbrev pub main_repetition_code : MainState → Place → Expression → Main → Result (ItemCode × MainState) ProgramFault
 main_repetition_code state place test body = do
+  condition ← main_truth state.names test
   block ← resolved_block state body
-  Ok (item.While place test block.0, block.1)
+  Ok (item.While place condition block.0, block.1)
 
 -- declarations and comprehensions as items
 abbrev pub field_item : MainState → List ℕ → Place → Kind → Expression → Result (ItemCode × MainState) ProgramFault

@@ -1,18 +1,17 @@
-use Rattle.std.proofs.Common.{◌≡◌, ◌+◌, [], rules, sym, subst, map, Ok, Err, ap, ◌∙◌, drop}
+use Rattle.std.proofs.Common.{◌≡◌, ◌+◌, [], rules, sym, subst, map, Err, ap, ◌∙◌, drop}
 use Rattle.liszt_base.specs.Gives.{Gives}
 use Rattle.liszt_tree.specs.Tree.{expression, statement_tree, body_of, If, While, For}
 use Rattle.liszt_tree.specs.declared.tree.Stmt.{the_lemmas}
-use Rattle.resolved_code.specs.declared.statements.StatementCode.TheVariants as code
-use Rattle.phase_types.specs.Internal.Results.{with_names, repetition_code, members_code}
+use Rattle.phase_types.specs.Internal.Results.{with_names, choice_code, repetition_code, members_code}
 use Rattle.phase_types.specs.Resolve.{resolved_statement, resolved_body, with_accesses}
-use Rattle.phase_types.proofs.LoopLemmas.{statements_after, statement_done, names_remain, names_handed_on, first_stops, second_stops, both_done, repeats, visits}
+use Rattle.phase_types.proofs.LoopLemmas.{statements_after, statement_done, names_remain, names_handed_on, first_stops, chooses, repeats, visits}
 use Rattle.phase_types.proofs.statement.+body.Goals as goal
 
 pub resolve_statement-resolve_body-requires : goal.resolve_statement-resolve_body-requires
 resolve_statement-resolve_body-requires t c = (search (rules, the_lemmas), tt)
 
-pub resolve_statement-resolve_body-requires-in-If : goal.resolve_statement-resolve_body-requires-in-If
-resolve_statement-resolve_body-requires-in-If t c = (search (rules, the_lemmas), tt)
+pub resolve_statement-resolve_choice-requires : goal.resolve_statement-resolve_choice-requires
+resolve_statement-resolve_choice-requires t c = (search (rules, the_lemmas), tt)
 
 pub resolve_statement-resolve_repetition-requires : goal.resolve_statement-resolve_repetition-requires
 resolve_statement-resolve_repetition-requires t c = (search (rules, the_lemmas), tt)
@@ -24,46 +23,31 @@ resolve_statement-returns-in_err-first-in-If t c =
     subst (λ s. Gives (resolved_statement c.args.names.now c.args.frame.now s) (with_names c.from_residual-in_err-first-in-If.result c.resolve_body.new.names c.resolve_body.new.frame)) (sym is)
     (names_handed_on _ c.from_residual-in_err-first-in-If.result c.resolve_body.new.names c.resolve_body.new.frame c.in_err-first-in-If.field-0.0 c.from_residual-in_err-first-in-If.ensures.1
     (first_stops c.args.names.now c.args.frame.now i.place (expression i.test) (body_of (map statement_tree i.yes)) (body_of (map statement_tree i.no)) i.has_else c.in_ok-test-in-If.test
-    c.resolve_truth.new.accesses c.in_err-first-in-If.field-0.0 c.in_ok-test-in-If.ensures
-    (subst (λ body. Gives (resolved_body c.args.names.now (with_accesses c.resolve_truth.new.accesses c.args.frame.now) [] (body_of (map statement_tree body))) (Err c.in_err-first-in-If.field-0.0))
+    c.resolve_condition.new.accesses c.in_err-first-in-If.field-0.0 c.in_ok-test-in-If.ensures
+    (subst (λ body. Gives (resolved_body c.args.names.now (with_accesses c.resolve_condition.new.accesses c.args.frame.now) [] (body_of (map statement_tree body))) (Err c.in_err-first-in-If.field-0.0))
     c.as_slice-in-If.ensures c.in_err-first-in-If.ensures.gives)))
 
-pub resolve_statement-returns-in_err-second-in-If : goal.resolve_statement-returns-in_err-second-in-If
-resolve_statement-returns-in_err-second-in-If t c =
+pub resolve_statement-returns-in_ok-first-in-If : goal.resolve_statement-returns-in_ok-first-in-If
+resolve_statement-returns-in_ok-first-in-If t c =
     let i = c.in-If in
     let is : statement_tree c.args.s.now ≡ If i.place (expression i.test) (body_of (map statement_tree i.yes)) (body_of (map statement_tree i.no)) i.has_else = search (rules, the_lemmas) in
-    subst (λ s. Gives (resolved_statement c.args.names.now c.args.frame.now s) (with_names c.from_residual-in_err-second-in-If.result c.resolve_body-in-If.new.names c.resolve_body-in-If.new.frame)) (sym is)
-    (names_handed_on _ c.from_residual-in_err-second-in-If.result c.resolve_body-in-If.new.names c.resolve_body-in-If.new.frame c.in_err-second-in-If.field-0.0 c.from_residual-in_err-second-in-If.ensures.1
-    (second_stops c.args.names.now c.args.frame.now i.place (expression i.test) (body_of (map statement_tree i.yes)) (body_of (map statement_tree i.no)) i.has_else c.in_ok-test-in-If.test
-    c.resolve_truth.new.accesses c.in_ok-first-in-If.first c.resolve_body.new.frame c.in_err-second-in-If.field-0.0 c.in_ok-test-in-If.ensures
-    (ap (λ body. resolved_body c.args.names.now (with_accesses c.resolve_truth.new.accesses c.args.frame.now) [] (body_of (map statement_tree body))) (sym c.as_slice-in-If.ensures) ∙ c.in_ok-first-in-If.ensures.gives)
-    (subst (λ names. Gives (resolved_body names c.resolve_body.new.frame [] (body_of (map statement_tree i.no))) (Err c.in_err-second-in-If.field-0.0)) c.in_ok-first-in-If.ensures.names
-    (subst (λ body. Gives (resolved_body c.resolve_body.new.names c.resolve_body.new.frame [] (body_of (map statement_tree body))) (Err c.in_err-second-in-If.field-0.0))
-    c.as_slice-in-If-2.ensures c.in_err-second-in-If.ensures.gives))))
-
-pub resolve_statement-returns-in_ok-second-in-If : goal.resolve_statement-returns-in_ok-second-in-If
-resolve_statement-returns-in_ok-second-in-If t c =
-    let i = c.in-If in
-    let is : statement_tree c.args.s.now ≡ If i.place (expression i.test) (body_of (map statement_tree i.yes)) (body_of (map statement_tree i.no)) i.has_else = search (rules, the_lemmas) in
-    let test : c.in_ok-test-in-If.test ≡ c.into_inner.result = search rules in
-    let names : c.args.names.now ≡ c.resolve_body-in-If.new.names = sym (c.in_ok-second-in-If.ensures.names ∙ c.in_ok-first-in-If.ensures.names) in
-    ap (resolved_statement c.args.names.now c.args.frame.now) is
-    ∙ both_done c.args.names.now c.args.frame.now i.place (expression i.test) (body_of (map statement_tree i.yes)) (body_of (map statement_tree i.no)) i.has_else c.in_ok-test-in-If.test
-    c.resolve_truth.new.accesses c.in_ok-first-in-If.first c.in_ok-second-in-If.second c.resolve_body.new.frame c.resolve_body-in-If.new.frame c.in_ok-test-in-If.ensures
-    (ap (λ body. resolved_body c.args.names.now (with_accesses c.resolve_truth.new.accesses c.args.frame.now) [] (body_of (map statement_tree body))) (sym c.as_slice-in-If.ensures) ∙ c.in_ok-first-in-If.ensures.gives)
-    (ap (λ names. resolved_body names c.resolve_body.new.frame [] (body_of (map statement_tree i.no))) (sym c.in_ok-first-in-If.ensures.names)
-    ∙ ap (λ body. resolved_body c.resolve_body.new.names c.resolve_body.new.frame [] (body_of (map statement_tree body))) (sym c.as_slice-in-If-2.ensures) ∙ c.in_ok-second-in-If.ensures.gives)
-    ∙ ap (λ test. Ok (code.If test c.in_ok-first-in-If.first c.in_ok-second-in-If.second, c.args.names.now, c.resolve_body-in-If.new.frame)) test
-    ∙ ap (λ names. Ok (code.If c.into_inner.result c.in_ok-first-in-If.first c.in_ok-second-in-If.second, names, c.resolve_body-in-If.new.frame)) names
+    let answer : _ = with_names c.resolve_choice.result c.resolve_choice.new.names c.resolve_choice.new.frame in
+    subst (λ s. Gives (resolved_statement c.args.names.now c.args.frame.now s) answer) (sym is)
+    (chooses c.args.names.now c.args.frame.now i.place (expression i.test) (body_of (map statement_tree i.yes)) (body_of (map statement_tree i.no)) i.has_else c.in_ok-test-in-If.test
+    c.resolve_condition.new.accesses c.in_ok-first-in-If.first c.resolve_body.new.frame answer c.in_ok-test-in-If.ensures
+    (ap (λ body. resolved_body c.args.names.now (with_accesses c.resolve_condition.new.accesses c.args.frame.now) [] (body_of (map statement_tree body))) (sym c.as_slice-in-If.ensures) ∙ c.in_ok-first-in-If.ensures.gives)
+    (subst (λ names. Gives (choice_code names c.resolve_body.new.frame c.in_ok-test-in-If.test c.in_ok-first-in-If.first (body_of (map statement_tree i.no))) answer) c.in_ok-first-in-If.ensures.names
+    (subst (λ body. Gives (choice_code c.resolve_body.new.names c.resolve_body.new.frame c.in_ok-test-in-If.test c.in_ok-first-in-If.first (body_of (map statement_tree body))) answer)
+    c.as_slice-in-If-2.ensures c.resolve_choice.ensures)))
 
 pub resolve_statement-returns-in_ok-test-in-While : goal.resolve_statement-returns-in_ok-test-in-While
 resolve_statement-returns-in_ok-test-in-While t c =
     let i = c.in-While in
     let is : statement_tree c.args.s.now ≡ While i.place (expression i.test) (body_of (map statement_tree i.body)) = search (rules, the_lemmas) in
     subst (λ s. Gives (resolved_statement c.args.names.now c.args.frame.now s) (with_names c.resolve_repetition.result c.resolve_repetition.new.names c.resolve_repetition.new.frame)) (sym is)
-    (repeats c.args.names.now c.args.frame.now i.place (expression i.test) (body_of (map statement_tree i.body)) c.in_ok-test-in-While.test c.resolve_truth-in-While.new.accesses
+    (repeats c.args.names.now c.args.frame.now i.place (expression i.test) (body_of (map statement_tree i.body)) c.in_ok-test-in-While.test c.resolve_truth.new.accesses
     (with_names c.resolve_repetition.result c.resolve_repetition.new.names c.resolve_repetition.new.frame) c.in_ok-test-in-While.ensures
-    (subst (λ body. Gives (repetition_code c.args.names.now (with_accesses c.resolve_truth-in-While.new.accesses c.args.frame.now) i.place c.in_ok-test-in-While.test (body_of (map statement_tree body)))
+    (subst (λ body. Gives (repetition_code c.args.names.now (with_accesses c.resolve_truth.new.accesses c.args.frame.now) i.place c.in_ok-test-in-While.test (body_of (map statement_tree body)))
     (with_names c.resolve_repetition.result c.resolve_repetition.new.names c.resolve_repetition.new.frame)) c.as_slice-in-While.ensures c.resolve_repetition.ensures))
 
 pub resolve_statement-returns-in_ok-arg-in-For : goal.resolve_statement-returns-in_ok-arg-in-For
@@ -74,10 +58,8 @@ resolve_statement-returns-in_ok-arg-in-For t c =
     subst (λ s. Gives (resolved_statement c.args.names.now c.args.frame.now s) answer) (sym is)
     (visits c.args.names.now c.args.frame.now i.place i.name i.at i.set i.set_at (expression i.arg) (body_of (map statement_tree i.body)) c.in_ok-operand-in-For.operand c.resolve_expression.new.accesses
     c.in_ok-arg-in-For.arg answer c.in_ok-operand-in-For.ensures c.in_ok-arg-in-For.ensures
-    (subst (λ name. Gives (members_code c.args.names.now (with_accesses c.resolve_expression.new.accesses c.args.frame.now) name i.at i.set i.set_at c.in_ok-arg-in-For.arg (body_of (map statement_tree i.body))) answer)
-    c.as_slice-in-For.ensures
-    (subst (λ body. Gives (members_code c.args.names.now (with_accesses c.resolve_expression.new.accesses c.args.frame.now) c.as_slice-in-For.result.now i.at i.set i.set_at c.in_ok-arg-in-For.arg
-    (body_of (map statement_tree body))) answer) c.as_slice-in-For-2.ensures c.resolve_members.ensures)))
+    (subst (λ body. Gives (members_code c.args.names.now (with_accesses c.resolve_expression.new.accesses c.args.frame.now) i.name i.at i.set i.set_at c.in_ok-arg-in-For.arg
+    (body_of (map statement_tree body))) answer) c.as_slice-body.ensures c.resolve_members.ensures))
 
 pub resolve_body-loop-s-preserved : goal.resolve_body-loop-s-preserved
 resolve_body-loop-s-preserved t c = (
