@@ -4,5 +4,6 @@ pub mod CodeComprehensionLemmas
 pub mod CodeExpressionLemmas
 pub mod CodeStatementLemmas
 pub mod CodeStepLemmas
+pub mod ElementKindLemmas
 pub mod SoundnessLemmas
 pub mod StencilLemmas

@@ -2,5 +2,6 @@
 #![tactic(auto)]
 
 mod cases;
+mod elements;
 pub mod laws;
 mod walks;

@@ -1,5 +1,5 @@
 -- The accesses and the visits of resolved code. This project's own.
-use Rattle.std.specs.Prelude.{ℕ, ◌+◌, Option, Some, None, List, [], ◌∷◌, ◌++◌, map, slice_get}
+use Rattle.std.specs.Prelude.{◌≡◌, ℕ, ◌+◌, Option, Some, None, List, [], ◌∷◌, ◌++◌, map, length, slice_get}
 use Rattle.std.specs.List.{flat_map, slice_set}
 use Rattle.std.specs.Option.{option_and_then}
 use Rattle.liszt_base.specs.MeshLists.{MeshLists}
@@ -7,6 +7,8 @@ use Rattle.liszt_base.specs.declared.accesses.Access.{Access}
 use Rattle.liszt_base.specs.declared.accesses.Mode.{Mode}
 use Rattle.liszt_base.specs.declared.accesses.Mode.TheVariants.{Read}
 use Rattle.liszt_base.specs.declared.elements.Elem.{Elem}
+use Rattle.liszt_base.specs.declared.elements.Kind.{Kind}
+use Rattle.liszt_base.specs.declared.elements.Kind.TheVariants.{Vertex, Edge, Face, Cell}
 use Rattle.resolved_code.specs.declared.expressions.ElementCode.{ElementCode, fold-ElementCode}
 use Rattle.resolved_code.specs.declared.expressions.ElementCode.TheOpen.{ElementCode-F}
 use Rattle.resolved_code.specs.declared.expressions.ElementFun.{ElementFun}
@@ -19,6 +21,7 @@ use Rattle.resolved_code.specs.declared.expressions.TruthCode.{TruthCode, fold-T
 use Rattle.resolved_code.specs.declared.expressions.TruthCode.TheOpen.{TruthCode-F, TruthLink-F}
 use Rattle.resolved_code.specs.declared.statements.StatementCode.{StatementCode, fold-StatementCode}
 use Rattle.resolved_code.specs.declared.statements.StatementCode.TheOpen.{StatementCode-F}
+use Rattle.topo_operators.specs.Operands.{IsNilOrElement}
 use Rattle.topo_operators.specs.Operators.{head, tail, inside, outside, flip, towards, members}
 use Rattle.phase_types.specs.Walk.{mode_by}
 
@@ -186,3 +189,31 @@ statement_walk mesh code = fold-StatementCode (Slots → Walk) (statement_layer 
 
 abbrev pub code_walk : MeshLists → List StatementCode → Slots → Walk
 code_walk mesh codes = body_walk (map (statement_walk mesh) codes)
+
+-- KINDS of element expressions by those of the slots, if each operator has an operand of its kind
+abbrev pub call_kind : ElementFun → Option Kind → Option Kind
+call_kind Head (Some Edge) = Some Vertex
+call_kind Tail (Some Edge) = Some Vertex
+call_kind Inside (Some Face) = Some Cell
+call_kind Outside (Some Face) = Some Cell
+call_kind Flip (Some Edge) = Some Edge
+call_kind Flip (Some Face) = Some Face
+call_kind _ _ = None
+
+abbrev pub towards_kind : Option Kind → Option Kind → Option Kind
+towards_kind (Some Edge) (Some Vertex) = Some Edge
+towards_kind (Some Face) (Some Cell) = Some Face
+towards_kind _ _ = None
+
+abbrev pub kind_layer : List Kind → ElementCode-F (Option Kind) → Option Kind
+kind_layer kinds (ElementCode-F.Slot slot) = slice_get kinds slot
+kind_layer kinds (ElementCode-F.Call fun kind) = call_kind fun kind
+kind_layer kinds (ElementCode-F.Towards kind to) = towards_kind kind to
+
+abbrev pub kind_of : List Kind → ElementCode → Option Kind
+kind_of kinds code = fold-ElementCode (Option Kind) (kind_layer kinds) code
+
+-- slots with nil or an element of their kind
+pub record SlotsFit (mesh : MeshLists) (kinds : List Kind) (slots : Slots) : Type 0 where
+  pub long : length slots ≡ length kinds
+  pub each : (slot : ℕ) (kind : Kind) → slice_get kinds slot ≡ Some kind → IsNilOrElement mesh kind (in_slot slots slot)
