@@ -5,5 +5,8 @@ pub mod CodeExpressionLemmas
 pub mod CodeStatementLemmas
 pub mod CodeStepLemmas
 pub mod ElementKindLemmas
+pub mod FitClauseLemmas
+pub mod FitExpressionLemmas
+pub mod FitStatementLemmas
 pub mod SoundnessLemmas
 pub mod StencilLemmas

@@ -4,4 +4,5 @@
 mod cases;
 mod elements;
 pub mod laws;
+mod visits;
 mod walks;
