@@ -347,7 +347,7 @@ fit_of_code made c m =
     let is = element_declared m.names no_slots c.name m.at c.over step.0 step.1 in
     let names : Names = m.names ++ element_name c.name c.over no_slots ∷ [] in
     let next : (resolved_body names (with_element c.over no_slots) [] c.body >>= λ block. Ok (code_of c.over block)) ≡ Ok made =
-        ap (λ d. resolved_body d.1 d.2 [] c.body >>= λ block. Ok (code_of c.over block)) is.1 ∙ step.2 in
+    ap (λ d. resolved_body d.1 d.2 [] c.body >>= λ block. Ok (code_of c.over block)) is.1 ∙ step.2 in
     let block = bound (resolved_body names (with_element c.over no_slots) [] c.body) (λ block. Ok (code_of c.over block)) made next in
     let kinds : List Kind = block.0.1.elements in
     let zero_kind : slice_get kinds 0 ≡ Some c.over = first_kind kinds c.over (body_extends names (with_element c.over no_slots) [] c.body block.0 block.1) in

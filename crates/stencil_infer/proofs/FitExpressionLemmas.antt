@@ -237,7 +237,7 @@ module _ (kinds : List Kind) where
           (called_code_fits place fun operand.0.0 call.0 (expression_fits arg accesses operand.0 operand.1) call.1)
       expression_fits (Towards place arg to) accesses r e =
           let first = bound (resolved_expression names accesses arg)
-              (λ first. resolved_expression names first.1 to >>= λ second. towards_code place first.0 second.0 >>= λ call. Ok (call, second.1)) r e in
+          (λ first. resolved_expression names first.1 to >>= λ second. towards_code place first.0 second.0 >>= λ call. Ok (call, second.1)) r e in
           let second = bound (resolved_expression names first.0.1 to) (λ second. towards_code place first.0.0 second.0 >>= λ call. Ok (call, second.1)) r first.2 in
           let call = bound (towards_code place first.0.0 second.0.0) (λ call. Ok (call, second.0.1)) r second.2 in
           subst (λ (r : TypedCode × Accesses). FitsKinds r.0) (ok_is (call.0, second.0.1) r call.2)
@@ -257,7 +257,7 @@ module _ (kinds : List Kind) where
           links_fit links (first_of_chain operand.0.0) operand.0.1 r (chain_starts operand.0.0 (expression_fits first accesses operand.0 operand.1)) operand.2
       expression_fits (Compare place rel left right) accesses r e =
           let first = bound (resolved_expression names accesses left)
-              (λ first. resolved_expression names first.1 right >>= λ second. comparison_code place rel first.0 second.0 >>= λ test. Ok (test, second.1)) r e in
+          (λ first. resolved_expression names first.1 right >>= λ second. comparison_code place rel first.0 second.0 >>= λ test. Ok (test, second.1)) r e in
           let second = bound (resolved_expression names first.0.1 right) (λ second. comparison_code place rel first.0.0 second.0 >>= λ test. Ok (test, second.1)) r first.2 in
           let test = bound (comparison_code place rel first.0.0 second.0.0) (λ test. Ok (test, second.0.1)) r second.2 in
           subst (λ (r : TypedCode × Accesses). FitsKinds r.0) (ok_is (test.0, second.0.1) r test.2)

@@ -128,7 +128,7 @@ module _ {names : Names} {kinds : List Kind} (has : HasKinds names kinds) where
       let operand = bound (resolved_expression names accesses e) (λ operand. number_in (place_of e) operand.0 >>= λ value. Ok (value, operand.1)) value is in
       let found = bound (number_in (place_of e) operand.0.0) (λ value. Ok (value, operand.0.1)) value operand.2 in
       let same : operand.0.0 ≡ typed.Number value.0 =
-          is_number (place_of e) operand.0.0 found.0 found.1 ∙ ap (λ (v : NumberCode × Accesses). typed.Number v.0) (ok_is (found.0, operand.0.1) value found.2) in
+      is_number (place_of e) operand.0.0 found.0 found.1 ∙ ap (λ (v : NumberCode × Accesses). typed.Number v.0) (ok_is (found.0, operand.0.1) value found.2) in
       subst (FitsKinds kinds) same (expression_fits kinds names has e accesses operand.0 operand.1)
 
   truth_fit : (e : Expression) (accesses : Accesses) (value : TruthCode × Accesses) → resolved_truth names accesses e ≡ Ok value → truth_fits kinds value.0 ≡ true
@@ -136,7 +136,7 @@ module _ {names : Names} {kinds : List Kind} (has : HasKinds names kinds) where
       let operand = bound (resolved_expression names accesses e) (λ operand. truth_in (place_of e) operand.0 >>= λ value. Ok (value, operand.1)) value is in
       let found = bound (truth_in (place_of e) operand.0.0) (λ value. Ok (value, operand.0.1)) value operand.2 in
       let same : operand.0.0 ≡ typed.Truth value.0 =
-          is_truth (place_of e) operand.0.0 found.0 found.1 ∙ ap (λ (v : TruthCode × Accesses). typed.Truth v.0) (ok_is (found.0, operand.0.1) value found.2) in
+      is_truth (place_of e) operand.0.0 found.0 found.1 ∙ ap (λ (v : TruthCode × Accesses). typed.Truth v.0) (ok_is (found.0, operand.0.1) value found.2) in
       subst (FitsKinds kinds) same (expression_fits kinds names has e accesses operand.0 operand.1)
 
   is_element : (place : Place) (value : TypedCode) (pair : Kind × ElementCode) → element_in place value ≡ Ok pair → value ≡ typed.Element pair.0 pair.1
@@ -149,8 +149,8 @@ module _ {names : Names} {kinds : List Kind} (has : HasKinds names kinds) where
       let operand = bound (resolved_expression names accesses e) (λ operand. element_in (place_of e) operand.0 >>= λ value. Ok (value, operand.1)) value is in
       let found = bound (element_in (place_of e) operand.0.0) (λ value. Ok (value, operand.0.1)) value operand.2 in
       let same : operand.0.0 ≡ typed.Element value.0.0 value.0.1 =
-          is_element (place_of e) operand.0.0 found.0 found.1
-          ∙ ap (λ (v : (Kind × ElementCode) × Accesses). typed.Element v.0.0 v.0.1) (ok_is (found.0, operand.0.1) value found.2) in
+      is_element (place_of e) operand.0.0 found.0 found.1
+      ∙ ap (λ (v : (Kind × ElementCode) × Accesses). typed.Element v.0.0 v.0.1) (ok_is (found.0, operand.0.1) value found.2) in
       subst (FitsKinds kinds) same (expression_fits kinds names has e accesses operand.0 operand.1)
 
   origin_fit : (set : SetName) (place : Place) (operand : TypedCode) (origin : ElementCode) → FitsKinds kinds operand → element_with_set set place operand ≡ Ok origin
@@ -193,16 +193,19 @@ module _ (kinds : List Kind) where
     statement_fit names frame (Val place name at init) r has l e =
         let x = val_steps names frame name at init r e in
         let at_slot : slice_get kinds (length frame.elements) ≡ Some x.value.0.0 = new_kind frame.elements kinds x.value.0.0 (within _ r x.result l) in
-        subst Fit x.result
-        (fits_statement_val kinds (length frame.elements) x.value.0.1
-        ∙ same_kinds (slice_get kinds (length frame.elements)) (kind_of kinds x.value.0.1) x.value.0.0 at_slot (element_fit has init frame.accesses x.value x.value_is),
-        has_element name (length frame.elements) x.value.0.0 at_slot has)
+        subst Fit x.result (
+          fits_statement_val kinds (length frame.elements) x.value.0.1
+              ∙ same_kinds (slice_get kinds (length frame.elements)) (kind_of kinds x.value.0.1) x.value.0.0 at_slot (element_fit has init frame.accesses x.value x.value_is),
+          has_element name (length frame.elements) x.value.0.0 at_slot has,
+        )
     statement_fit names frame (Assign place name (Some target) how value) r has l e =
         let x = field_steps names frame place name how target value r e in
-        subst Fit x.result
-        (fits_statement_field kinds place x.field how x.at_element x.new_value.0
-        ∙ both_true (number_fit has value x.later x.new_value x.value_is)
-        (of_kind kinds names has x.kind place x.operand.0 x.at_element (expression_fits kinds names has target frame.accesses x.operand x.operand_is) x.element_is), has)
+        subst Fit x.result (
+          fits_statement_field kinds place x.field how x.at_element x.new_value.0
+              ∙ both_true (number_fit has value x.later x.new_value x.value_is)
+              (of_kind kinds names has x.kind place x.operand.0 x.at_element (expression_fits kinds names has target frame.accesses x.operand x.operand_is) x.element_is),
+          has,
+        )
     statement_fit names frame (Assign place name None how value) r has l e = name_fit names frame how value r has (name_steps names frame place name how value r e)
     statement_fit names frame (If place test first second has_else) r has l e =
         let x = if_steps names frame place test first second has_else r e in
@@ -222,12 +225,14 @@ module _ (kinds : List Kind) where
         let inner : Frame = with_element kind (with_accesses x.operand.1 frame) in
         let m : Extends x.block.1.elements kinds = within (code.For (length frame.elements) set set_at x.origin x.block.0, names, x.block.1) r x.result l in
         let at_slot : slice_get kinds (length frame.elements) ≡ Some kind =
-            new_kind frame.elements kinds kind (extends_later (body_extends (names ++ element_name name kind frame ∷ []) inner [] body x.block x.block_is) m) in
+        new_kind frame.elements kinds kind (extends_later (body_extends (names ++ element_name name kind frame ∷ []) inner [] body x.block x.block_is) m) in
         let f = block_fit (body_fit (names ++ element_name name kind frame ∷ []) inner [] body x.block (has_element name (length frame.elements) kind at_slot has) m x.block_is) in
-        subst Fit x.result
-        (fits_statement_for kinds (length frame.elements) set set_at x.origin x.block.0
-        ∙ both_true (origin_fit has set set_at x.operand.0 x.origin (expression_fits kinds names has arg frame.accesses x.operand x.operand_is) x.origin_is)
-        (both_true (same_kinds (slice_get kinds (length frame.elements)) (Some kind) kind at_slot refl) f), has)
+        subst Fit x.result (
+          fits_statement_for kinds (length frame.elements) set set_at x.origin x.block.0
+              ∙ both_true (origin_fit has set set_at x.operand.0 x.origin (expression_fits kinds names has arg frame.accesses x.operand x.operand_is) x.origin_is)
+              (both_true (same_kinds (slice_get kinds (length frame.elements)) (Some kind) kind at_slot refl) f),
+          has,
+        )
 
     pub body_fit : (names : Names) (frame : Frame) (done : List StatementCode) (body : Body) (r : Block) → HasKinds names kinds → Extends r.1.elements kinds
         → resolved_body names frame done body ≡ Ok r → BodyFit done r

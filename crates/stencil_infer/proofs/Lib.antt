@@ -10,3 +10,4 @@ pub mod FitExpressionLemmas
 pub mod FitStatementLemmas
 pub mod SoundnessLemmas
 pub mod StencilLemmas
+pub mod VisitLemmas
