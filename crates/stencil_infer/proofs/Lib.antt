@@ -4,6 +4,7 @@ pub mod CodeComprehensionLemmas
 pub mod CodeExpressionLemmas
 pub mod CodeStatementLemmas
 pub mod CodeStepLemmas
+pub mod CountLemmas
 pub mod ElementKindLemmas
 pub mod FitClauseLemmas
 pub mod FitExpressionLemmas

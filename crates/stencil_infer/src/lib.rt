@@ -2,6 +2,7 @@
 #![tactic(auto)]
 
 mod cases;
+mod count;
 mod elements;
 pub mod laws;
 mod visits;

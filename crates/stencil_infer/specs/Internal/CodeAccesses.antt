@@ -285,3 +285,7 @@ statement_fits kinds code = fold-StatementCode Bool (statement_fits_layer kinds)
 
 abbrev pub code_fits : List Kind → List StatementCode → Bool
 code_fits kinds codes = all_fit (map (statement_fits kinds) codes)
+
+-- an element that may be put in a slot
+abbrev pub FitsSlot : MeshLists → List Kind → ℕ → Elem → Type 0
+FitsSlot mesh kinds slot x = (kind : Kind) → slice_get kinds slot ≡ Some kind → IsNilOrElement mesh kind (Some x)
