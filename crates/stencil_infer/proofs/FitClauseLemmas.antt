@@ -1,6 +1,6 @@
 -- Which resolved code fits the kinds of the slots, by its variants.
 use Rattle.std.proofs.Common.{◌≡◌, ◌&&◌, ℕ, List, map, Bool, true, sym, ap, ◌∙◌}
-use Rattle.std.specs.Prelude.{Option, Some, ℤ, slice_get}
+use Rattle.std.specs.Prelude.{Some, ℤ, slice_get}
 use Rattle.liszt_base.specs.Kinds.{kind_of as kind_of_set}
 use Rattle.liszt_base.specs.declared.answers.Place.{Place}
 use Rattle.liszt_base.specs.declared.elements.Kind.{Kind}

@@ -1,7 +1,7 @@
 -- A resolved expression fits the kinds of the slots.
-use Rattle.std.proofs.Common.{◌≡◌, ◌&&◌, ℕ, List, [], ◌∷◌, ◌++◌, map, Bool, true, false, refl, sym, ap, subst, ◌∙◌}
+use Rattle.std.proofs.Common.{◌≡◌, ◌&&◌, ℕ, List, [], ◌∷◌, ◌++◌, map, Bool, true, false, refl, ap, subst, ◌∙◌}
 use Rattle.std.proofs.lemmas.Bool.{and_parts}
-use Rattle.std.specs.Prelude.{Option, Some, None, is_some, slice_get, Result, Ok, Err, if◌then◌else◌}
+use Rattle.std.specs.Prelude.{Option, Some, None, is_some, slice_get, Result, Ok, if◌then◌else◌}
 use Rattle.liszt_base.specs.Kinds.{is_kind}
 use Rattle.liszt_base.specs.declared.answers.Place.{Place}
 use Rattle.liszt_base.specs.declared.answers.ProgramFault.{ProgramFault}
@@ -20,10 +20,8 @@ use Rattle.resolved_code.specs.declared.expressions.ElementCode.{ElementCode}
 use Rattle.resolved_code.specs.declared.expressions.ElementCode.TheVariants as element
 use Rattle.resolved_code.specs.declared.expressions.ElementFun.{ElementFun}
 use Rattle.resolved_code.specs.declared.expressions.ElementFun.TheVariants as function
-use Rattle.resolved_code.specs.declared.expressions.NumberCode.{NumberCode}
 use Rattle.resolved_code.specs.declared.expressions.NumberCode.TheVariants as number
 use Rattle.resolved_code.specs.declared.expressions.NumberLink.{NumberLink}
-use Rattle.resolved_code.specs.declared.expressions.TruthCode.{TruthCode}
 use Rattle.resolved_code.specs.declared.expressions.TruthCode.TheVariants as truth
 use Rattle.resolved_code.specs.declared.expressions.TruthLink.{TruthLink}
 use Rattle.phase_types.specs.declared.resolution.ChainCode.{ChainCode}

@@ -1,10 +1,9 @@
 -- Resolved statements fit the kinds of the slots of their comprehension.
-use Rattle.std.proofs.Common.{◌≡◌, ◌&&◌, ℕ, zero, suc, List, [], ◌∷◌, ◌++◌, map, length, Bool, true, false, refl, sym, ap, subst, ◌∙◌, inl, inr}
+use Rattle.std.proofs.Common.{◌≡◌, ℕ, List, [], ◌∷◌, ◌++◌, length, Bool, true, false, refl, sym, ap, subst, ◌∙◌, inl, inr}
 use Rattle.std.proofs.lemmas.List.{append-nil, append_assoc}
-use Rattle.std.specs.Prelude.{Option, Some, None, is_some, slice_get, Result, Ok, Err, if◌then◌else◌}
+use Rattle.std.specs.Prelude.{Option, Some, None, slice_get, Ok, if◌then◌else◌}
 use Rattle.liszt_base.specs.Kinds.{has_set, is_kind, kind_of as kind_of_set}
 use Rattle.liszt_base.specs.declared.answers.Place.{Place}
-use Rattle.liszt_base.specs.declared.answers.ProgramFault.{ProgramFault}
 use Rattle.liszt_base.specs.declared.answers.ProgramWhat.TheVariants.{TypeMismatch}
 use Rattle.liszt_base.specs.declared.elements.Kind.{Kind}
 use Rattle.liszt_base.specs.declared.elements.Kind.TheVariants.{Vertex, Edge, Face, Cell}
@@ -17,13 +16,12 @@ use Rattle.resolved_code.specs.declared.expressions.TruthCode.{TruthCode}
 use Rattle.resolved_code.specs.declared.statements.StatementCode.{StatementCode}
 use Rattle.resolved_code.specs.declared.statements.StatementCode.TheVariants as code
 use Rattle.phase_types.specs.declared.frame.Frame.{Frame}
-use Rattle.phase_types.specs.declared.resolution.Resolution.{Resolution}
 use Rattle.phase_types.specs.declared.resolution.Resolution.TheVariants as resolution
 use Rattle.phase_types.specs.declared.resolution.TypedCode.{TypedCode}
 use Rattle.phase_types.specs.declared.resolution.TypedCode.TheVariants as typed
-use Rattle.phase_types.specs.Resolve.{◌>>=◌, fails, Names, Accesses, resolution_of, number_in, truth_in, element_in, element_with_set, resolved_expression, resolved_number, resolved_truth, resolved_element, with_accesses, with_number, with_element, number_name, element_name, resolved_statement, resolved_body}
+use Rattle.phase_types.specs.Resolve.{◌>>=◌, fails, Names, Accesses, number_in, truth_in, element_in, element_with_set, resolved_expression, resolved_number, resolved_truth, resolved_element, with_accesses, with_element, element_name, resolved_statement, resolved_body}
 use Rattle.phase_types.specs.Walk.{place_of}
-use Rattle.stencil_infer.specs.Internal.CodeAccesses.{kind_of, has_kind, number_fits, truth_fits, are_same_kind, may_have_set, statement_fits, code_fits}
+use Rattle.stencil_infer.specs.Internal.CodeAccesses.{kind_of, number_fits, truth_fits, are_same_kind, may_have_set, statement_fits, code_fits}
 use Rattle.stencil_infer.proofs.CodeExpressionLemmas.{bound, ok_is, is_number, is_truth}
 use Rattle.stencil_infer.proofs.CodeStatementLemmas.{in_names}
 use Rattle.stencil_infer.proofs.CodeStepLemmas.{Resolved, Block, var_steps, val_steps, field_steps, NameSteps, ScalarSteps, LocalSteps, name_steps, if_steps, while_steps, for_steps, body_steps}

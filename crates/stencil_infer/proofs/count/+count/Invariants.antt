@@ -1,6 +1,6 @@
-use Rattle.std.proofs.Common.{◌≡◌, ◌≤◌, ◌<◌, ◌+◌, true, drop, length}
+use Rattle.std.proofs.Common.{◌≤◌, ◌+◌, drop}
 use Rattle.std.specs.List.{AllByRecursion}
-use Rattle.stencil_infer.specs.Internal.CodeAccesses.{FitsSlot, SlotsFit, code_fits, code_walk, members_walk}
+use Rattle.stencil_infer.specs.Internal.CodeAccesses.{FitsSlot, SlotsFit, code_walk, members_walk}
 use Rattle.stencil_infer.proofs.CountLemmas.{Counts}
 use Rattle.stencil_infer.proofs.count.+count.Given as goal
 

@@ -1,4 +1,4 @@
-use Rattle.std.proofs.Common.{◌+◌, map, min, sym, ap, ◌∙◌, arith}
+use Rattle.std.proofs.Common.{map, min, sym, ap, ◌∙◌, arith}
 use Rattle.stencil_infer.specs.Internal.CodeAccesses.{total, number_visits, visits_of_number_link}
 use Rattle.stencil_infer.proofs.CodeClauseLemmas.{visits_number_chain, visits_number_link_is}
 use Rattle.stencil_infer.proofs.VisitLemmas.{greatest, start_counted, one_counted, all_counted, chain_counted}

@@ -1,4 +1,4 @@
-use Rattle.std.proofs.Common.{◌+◌, map, min, sym, ap, ◌∙◌, arith}
+use Rattle.std.proofs.Common.{map, min, sym, ap, ◌∙◌, arith}
 use Rattle.stencil_infer.specs.Internal.CodeAccesses.{total, truth_visits, visits_of_truth_link}
 use Rattle.stencil_infer.proofs.CodeClauseLemmas.{visits_truth_chain, visits_truth_link_is}
 use Rattle.stencil_infer.proofs.VisitLemmas.{greatest, start_counted, one_counted, all_counted, chain_counted}
