@@ -30,7 +30,9 @@ use Rattle.phase_types.proofs.BodyLemmas.{declared}
 use Rattle.phase_types.proofs.CheckedLemmas.{program_found}
 use Rattle.phase_types.proofs.ResolveLemmas.{Agrees, binding_in}
 use Rattle.stencil_infer.specs.Stencils.{bindings_at_start, iteration_accesses, iteration_visits}
-use Rattle.stencil_infer.specs.Internal.CodeAccesses.{Slots, code_walk}
+use Rattle.stencil_infer.specs.Internal.CodeAccesses.{Slots, code_walk, code_fits}
+use Rattle.stencil_infer.proofs.FitExpressionLemmas.{HasKinds}
+use Rattle.stencil_infer.proofs.FitStatementLemmas.{BodyFit, Extends, block_fit, body_extends, body_fit, extends_itself, has_element}
 use Rattle.stencil_infer.proofs.CodeExpressionLemmas.{bound, ok_is, KnowsFields}
 use Rattle.stencil_infer.proofs.CodeStepLemmas.{Block, element_declared, body_grows}
 use Rattle.stencil_infer.proofs.CodeStatementLemmas.{Fits, WalkAgrees, in_names, fits_element, block_walk, body_agrees}
@@ -330,3 +332,37 @@ pub checked_walk : (program : Main) (checked : CheckedProgram) (k : ℕ) (made :
     → length slots ≡ length made.elements → IsWalk mesh made c id (slice_set slots 0 (Some (unflipped c.over id)))
 checked_walk program checked k made c is e f mesh id slots long =
     walk_of_code mesh made c id slots (made_at checked.comprehensions (comprehensions_of program) (comprehensions_made program checked is) k made c e f) long
+
+-- THE CODE FITS its own slots, of which the first has the kind of the comprehension.
+pub record IsFit (made : ComprehensionCode) : Type 0 where
+  pub fits : code_fits made.elements made.body ≡ true
+  pub first : slice_get made.elements 0 ≡ Some made.over
+
+first_kind : (kinds : List Kind) (kind : Kind) → Extends (kind ∷ []) kinds → slice_get kinds 0 ≡ Some kind
+first_kind kinds kind h = ap (λ kinds. slice_get kinds 0) h.is
+
+fit_of_code : (made : ComprehensionCode) (c : Comprehension) → IsMade made c → IsFit made
+fit_of_code made c m =
+    let step = bound (declared_element m.names no_slots c.name m.at c.over) (λ d. resolved_body d.1 d.2 [] c.body >>= λ block. Ok (code_of c.over block)) made m.resolved in
+    let is = element_declared m.names no_slots c.name m.at c.over step.0 step.1 in
+    let names : Names = m.names ++ element_name c.name c.over no_slots ∷ [] in
+    let next : (resolved_body names (with_element c.over no_slots) [] c.body >>= λ block. Ok (code_of c.over block)) ≡ Ok made =
+    ap (λ d. resolved_body d.1 d.2 [] c.body >>= λ block. Ok (code_of c.over block)) is.1 ∙ step.2 in
+    let block = bound (resolved_body names (with_element c.over no_slots) [] c.body) (λ block. Ok (code_of c.over block)) made next in
+    let kinds : List Kind = block.0.1.elements in
+    let zero_kind : slice_get kinds 0 ≡ Some c.over = first_kind kinds c.over (body_extends names (with_element c.over no_slots) [] c.body block.0 block.1) in
+    let none : HasKinds m.names kinds = record { has_kind_of = λ name slot kind is. absurd (m.main.no_elements name slot kind is) } in
+    let fit : BodyFit kinds [] block.0 = body_fit kinds names (with_element c.over no_slots) [] c.body block.0 (has_element c.name 0 c.over zero_kind none) (extends_itself kinds) block.1 in
+    subst IsFit (ok_is (code_of c.over block.0) made block.2) (record { fits = block_fit kinds fit; first = zero_kind })
+
+fit_at : (codes : List ComprehensionCode) (comprehensions : List Comprehension) → AreMade codes comprehensions → (k : ℕ) (made : ComprehensionCode) → slice_get codes k ≡ Some made → IsFit made
+fit_at (x ∷ codes) (y ∷ comprehensions) h zero made e = subst IsFit (some_is x made e) (fit_of_code x y h.0) where
+  some_is : {A : Type 0} (a b : A) → Some a ≡ Some b → a ≡ b
+  some_is a b e = cc
+fit_at (x ∷ codes) (y ∷ comprehensions) h (suc k) made e = fit_at codes comprehensions h.1 k made e
+fit_at [] [] h k made e = absurd cc
+fit_at [] (y ∷ comprehensions) h k made e = absurd h
+fit_at (x ∷ codes) [] h k made e = absurd h
+
+pub checked_fits : (program : Main) (checked : CheckedProgram) (k : ℕ) (made : ComprehensionCode) → checked_program program ≡ Ok checked → slice_get checked.comprehensions k ≡ Some made → IsFit made
+checked_fits program checked k made is e = fit_at checked.comprehensions (comprehensions_of program) (comprehensions_made program checked is) k made e

@@ -40,12 +40,12 @@ use Rattle.stencil_infer.proofs.CodeExpressionLemmas.{bound, ok_is, is_number, i
 use Rattle.stencil_infer.proofs.CodeStepLemmas.{Resolved, Block, VarSteps, var_steps, ValSteps, val_steps, FieldSteps, field_steps, NameSteps, ScalarSteps, LocalSteps, name_steps, if_steps, while_steps, ForSteps, for_steps, body_steps, statement_grows, body_grows}
 
 -- SLOTS that are set
-set_slot : (slots : Slots) (n : ℕ) (x : Option Elem) → n < length slots → in_slot (slice_set slots n x) n ≡ x
+pub set_slot : (slots : Slots) (n : ℕ) (x : Option Elem) → n < length slots → in_slot (slice_set slots n x) n ≡ x
 set_slot [] n x l = absurd (omega (arith, l))
 set_slot (y ∷ slots) zero x l = refl
 set_slot (y ∷ slots) (suc n) x l = set_slot slots n x (omega (arith, l))
 
-set_other : (slots : Slots) (n i : ℕ) (x : Option Elem) → (i ≡ n → ⊥) → in_slot (slice_set slots n x) i ≡ in_slot slots i
+pub set_other : (slots : Slots) (n i : ℕ) (x : Option Elem) → (i ≡ n → ⊥) → in_slot (slice_set slots n x) i ≡ in_slot slots i
 set_other [] n i x apart = refl
 set_other (y ∷ slots) zero zero x apart = absurd (apart refl)
 set_other (y ∷ slots) zero (suc i) x apart = refl

@@ -4,5 +4,11 @@ pub mod CodeComprehensionLemmas
 pub mod CodeExpressionLemmas
 pub mod CodeStatementLemmas
 pub mod CodeStepLemmas
+pub mod CountLemmas
+pub mod ElementKindLemmas
+pub mod FitClauseLemmas
+pub mod FitExpressionLemmas
+pub mod FitStatementLemmas
 pub mod SoundnessLemmas
 pub mod StencilLemmas
+pub mod VisitLemmas

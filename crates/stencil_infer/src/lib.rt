@@ -1,6 +1,10 @@
-//! What each iteration of a comprehension may access, whatever numbers it reads. So far definitions, with worked cases and a law.
+//! What each iteration of a comprehension may access, whatever numbers it reads: the definitions, with worked cases and laws, and
+//! the functions that count visits over resolved code. Nothing public calls these yet.
 #![tactic(auto)]
 
 mod cases;
+mod count;
+mod elements;
 pub mod laws;
+mod visits;
 mod walks;

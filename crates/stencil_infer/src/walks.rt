@@ -1,7 +1,7 @@
 //! The walk through resolved code. So far that it has the accesses and the visits of the tree.
 #![allow(dead_code)]
 
-ghost use Rattle.std.specs.Prelude.{◌≡◌, ℕ, Ok, Some, length, slice_get};
+ghost use Rattle.std.specs.Prelude.{◌≡◌, ℕ, Ok, Some, length, slice_get, true};
 ghost use Rattle.std.specs.List.{slice_set};
 ghost use Rattle.liszt_base.specs.MeshLists.{MeshLists};
 ghost use Rattle.liszt_tree.specs.Tree.{Main};
@@ -11,7 +11,17 @@ ghost use Rattle.phase_types.specs.Checked.{checked_program};
 ghost use Rattle.phase_types.specs.declared.state.CheckedProgram.{CheckedProgram as Parts};
 ghost use Rattle.phase_types.specs.Environments.{Comprehension, comprehension_of};
 ghost use Rattle.stencil_infer.specs.Stencils.{iteration_accesses, iteration_visits};
-ghost use Rattle.stencil_infer.specs.Internal.CodeAccesses.{Slots, code_walk};
+ghost use Rattle.stencil_infer.specs.Internal.CodeAccesses.{Slots, code_fits, code_walk};
+
+/// The code of a comprehension of a checked program fits the kinds of its slots, of which slot 0 has the kind of the comprehension.
+fn code_fits_its_slots()
+    ensures fits { (program : Main) (checked : Parts) (k : ℕ) (code : Code)
+        → checked_program program ≡ Ok checked → slice_get checked.comprehensions k ≡ Some code
+        → code_fits code.elements code.body ≡ true }
+    ensures first { (program : Main) (checked : Parts) (k : ℕ) (code : Code)
+        → checked_program program ≡ Ok checked → slice_get checked.comprehensions k ≡ Some code
+        → slice_get code.elements 0 ≡ Some code.over }
+{}
 
 /// The code of a comprehension of a checked program, walked with the element of an iteration in slot 0, has the accesses and the visits
 /// of the iteration.

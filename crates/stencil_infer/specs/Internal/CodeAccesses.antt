@@ -1,12 +1,16 @@
 -- The accesses and the visits of resolved code. This project's own.
-use Rattle.std.specs.Prelude.{ℕ, ◌+◌, Option, Some, None, List, [], ◌∷◌, ◌++◌, map, slice_get}
+use Rattle.std.specs.Prelude.{◌≡◌, ◌&&◌, Bool, true, false, is_some, ℕ, ◌+◌, Option, Some, None, List, [], ◌∷◌, ◌++◌, map, length, slice_get}
 use Rattle.std.specs.List.{flat_map, slice_set}
 use Rattle.std.specs.Option.{option_and_then}
+use Rattle.liszt_base.specs.Kinds.{has_set, is_kind, kind_of as kind_of_set}
 use Rattle.liszt_base.specs.MeshLists.{MeshLists}
 use Rattle.liszt_base.specs.declared.accesses.Access.{Access}
 use Rattle.liszt_base.specs.declared.accesses.Mode.{Mode}
 use Rattle.liszt_base.specs.declared.accesses.Mode.TheVariants.{Read}
 use Rattle.liszt_base.specs.declared.elements.Elem.{Elem}
+use Rattle.liszt_base.specs.declared.elements.Kind.{Kind}
+use Rattle.liszt_base.specs.declared.elements.Kind.TheVariants.{Vertex, Edge, Face, Cell}
+use Rattle.liszt_base.specs.declared.elements.SetName.{SetName}
 use Rattle.resolved_code.specs.declared.expressions.ElementCode.{ElementCode, fold-ElementCode}
 use Rattle.resolved_code.specs.declared.expressions.ElementCode.TheOpen.{ElementCode-F}
 use Rattle.resolved_code.specs.declared.expressions.ElementFun.{ElementFun}
@@ -19,6 +23,7 @@ use Rattle.resolved_code.specs.declared.expressions.TruthCode.{TruthCode, fold-T
 use Rattle.resolved_code.specs.declared.expressions.TruthCode.TheOpen.{TruthCode-F, TruthLink-F}
 use Rattle.resolved_code.specs.declared.statements.StatementCode.{StatementCode, fold-StatementCode}
 use Rattle.resolved_code.specs.declared.statements.StatementCode.TheOpen.{StatementCode-F}
+use Rattle.topo_operators.specs.Operands.{IsNilOrElement}
 use Rattle.topo_operators.specs.Operators.{head, tail, inside, outside, flip, towards, members}
 use Rattle.phase_types.specs.Walk.{mode_by}
 
@@ -186,3 +191,101 @@ statement_walk mesh code = fold-StatementCode (Slots → Walk) (statement_layer 
 
 abbrev pub code_walk : MeshLists → List StatementCode → Slots → Walk
 code_walk mesh codes = body_walk (map (statement_walk mesh) codes)
+
+-- KINDS of element expressions by those of the slots, if each operator has an operand of its kind
+abbrev pub call_kind : ElementFun → Option Kind → Option Kind
+call_kind Head (Some Edge) = Some Vertex
+call_kind Tail (Some Edge) = Some Vertex
+call_kind Inside (Some Face) = Some Cell
+call_kind Outside (Some Face) = Some Cell
+call_kind Flip (Some Edge) = Some Edge
+call_kind Flip (Some Face) = Some Face
+call_kind _ _ = None
+
+abbrev pub towards_kind : Option Kind → Option Kind → Option Kind
+towards_kind (Some Edge) (Some Vertex) = Some Edge
+towards_kind (Some Face) (Some Cell) = Some Face
+towards_kind _ _ = None
+
+abbrev pub kind_layer : List Kind → ElementCode-F (Option Kind) → Option Kind
+kind_layer kinds (ElementCode-F.Slot slot) = slice_get kinds slot
+kind_layer kinds (ElementCode-F.Call fun kind) = call_kind fun kind
+kind_layer kinds (ElementCode-F.Towards kind to) = towards_kind kind to
+
+abbrev pub kind_of : List Kind → ElementCode → Option Kind
+kind_of kinds code = fold-ElementCode (Option Kind) (kind_layer kinds) code
+
+-- slots with nil or an element of their kind
+pub record SlotsFit (mesh : MeshLists) (kinds : List Kind) (slots : Slots) : Type 0 where
+  pub long : length slots ≡ length kinds
+  pub each : (slot : ℕ) (kind : Kind) → slice_get kinds slot ≡ Some kind → IsNilOrElement mesh kind (in_slot slots slot)
+
+-- CODE FITS the kinds of the slots if each element expression in it has a kind, each slot gets an element of its kind, and each set is one
+-- of its operand.
+abbrev pub all_fit : List Bool → Bool
+all_fit [] = true
+all_fit (fits ∷ rest) = fits && all_fit rest
+
+abbrev pub has_kind : List Kind → ElementCode → Bool
+has_kind kinds code = is_some (kind_of kinds code)
+
+abbrev pub number_fits_layer : List Kind → NumberCode-F Bool Bool → Bool
+number_fits_layer kinds (NumberCode-F.Field place field arg) = has_kind kinds arg
+number_fits_layer kinds (NumberCode-F.Id place arg) = has_kind kinds arg
+number_fits_layer kinds (NumberCode-F.Neg place arg) = arg
+number_fits_layer kinds (NumberCode-F.Chain first rest) = first && all_fit rest
+number_fits_layer kinds _ = true
+
+abbrev pub number_link_fits : NumberLink-F Bool Bool → Bool
+number_link_fits l = l.arg
+
+abbrev pub number_fits : List Kind → NumberCode → Bool
+number_fits kinds code = fold-NumberCode Bool Bool (number_fits_layer kinds) number_link_fits code
+
+abbrev pub fits_of_number_link : List Kind → NumberLink → Bool
+fits_of_number_link kinds l = fold-NumberLink Bool Bool (number_fits_layer kinds) number_link_fits l
+
+abbrev pub truth_fits_layer : List Kind → TruthCode-F Bool Bool → Bool
+truth_fits_layer kinds (TruthCode-F.Valid arg) = has_kind kinds arg
+truth_fits_layer kinds (TruthCode-F.Not arg) = arg
+truth_fits_layer kinds (TruthCode-F.Chain first rest) = first && all_fit rest
+truth_fits_layer kinds (TruthCode-F.CompareNumbers rel left right) = number_fits kinds left && number_fits kinds right
+truth_fits_layer kinds (TruthCode-F.CompareElements is_equal left right) = has_kind kinds left && has_kind kinds right
+
+abbrev pub truth_link_fits : TruthLink-F Bool Bool → Bool
+truth_link_fits l = l.arg
+
+abbrev pub truth_fits : List Kind → TruthCode → Bool
+truth_fits kinds code = fold-TruthCode Bool Bool (truth_fits_layer kinds) truth_link_fits code
+
+abbrev pub fits_of_truth_link : List Kind → TruthLink → Bool
+fits_of_truth_link kinds l = fold-TruthLink Bool Bool (truth_fits_layer kinds) truth_link_fits l
+
+abbrev pub are_same_kind : Option Kind → Option Kind → Bool
+are_same_kind (Some kind) (Some other) = is_kind kind other
+are_same_kind _ _ = false
+
+abbrev pub may_have_set : SetName → Option Kind → Bool
+may_have_set set (Some kind) = has_set kind set
+may_have_set set None = false
+
+abbrev pub statement_fits_layer : List Kind → StatementCode-F Bool → Bool
+statement_fits_layer kinds (StatementCode-F.Var slot init) = number_fits kinds init
+statement_fits_layer kinds (StatementCode-F.Val slot init) = are_same_kind (slice_get kinds slot) (kind_of kinds init)
+statement_fits_layer kinds (StatementCode-F.Local slot how value) = number_fits kinds value
+statement_fits_layer kinds (StatementCode-F.Scalar scalar how value) = number_fits kinds value
+statement_fits_layer kinds (StatementCode-F.Field place field how target value) = number_fits kinds value && has_kind kinds target
+statement_fits_layer kinds (StatementCode-F.If test first second) = truth_fits kinds test && (all_fit first && all_fit second)
+statement_fits_layer kinds (StatementCode-F.While place test body) = truth_fits kinds test && all_fit body
+statement_fits_layer kinds (StatementCode-F.For slot set place arg body) =
+    may_have_set set (kind_of kinds arg) && (are_same_kind (slice_get kinds slot) (Some (kind_of_set set)) && all_fit body)
+
+abbrev pub statement_fits : List Kind → StatementCode → Bool
+statement_fits kinds code = fold-StatementCode Bool (statement_fits_layer kinds) code
+
+abbrev pub code_fits : List Kind → List StatementCode → Bool
+code_fits kinds codes = all_fit (map (statement_fits kinds) codes)
+
+-- an element that may be put in a slot
+abbrev pub FitsSlot : MeshLists → List Kind → ℕ → Elem → Type 0
+FitsSlot mesh kinds slot x = (kind : Kind) → slice_get kinds slot ≡ Some kind → IsNilOrElement mesh kind (Some x)
