@@ -1,5 +1,4 @@
 -- A condition of states is kept by expressions if a read of a field keeps it: they change nothing else.
-use Rattle.std.proofs.Common.{◌≡◌, ℕ, List}
 use Rattle.std.specs.Prelude.{Option, Some, None, ℤ}
 use Rattle.liszt_base.specs.declared.accesses.Mode.TheVariants.{Read}
 use Rattle.liszt_base.specs.declared.accesses.Spot.{Spot}

@@ -14,8 +14,8 @@ use Rattle.topo_operators.specs.Operators.{members}
 use Rattle.phase_types.specs.Environments.{Environment, Binding, FieldName, ScalarName, binding_of}
 use Rattle.kernel_eval.specs.Expressions.{ElementBindings, element_value, with_binding, elements_after}
 use Rattle.kernel_eval.specs.Outcomes.{Stop, continue_with, and_then, modify}
-use Rattle.kernel_eval.specs.States.{EvaluationState, value_in, scalar_value, local_bound_to, element_bound_to, after_block, with_element, with_local}
-use Rattle.kernel_eval.specs.Meaning.{Value, NumberValue, TruthValue, ElementValue, element_of, scalar_read, global_read, name_read, read_spot, spot_of, spot_value, meaning, number_in, truth_in, element_in, assign_spot, assign_field, assign_scalar, assign_name, in_block, evaluation_turns, for_each_member, statement_meaning, body_meaning}
+use Rattle.kernel_eval.specs.States.{EvaluationState, value_in, scalar_value, local_bound_to, after_block, with_element, with_local}
+use Rattle.kernel_eval.specs.Meaning.{Value, NumberValue, TruthValue, ElementValue, element_of, spot_of, meaning, number_in, truth_in, element_in, assign_spot, assign_field, assign_scalar, assign_name, in_block, evaluation_turns, for_each_member, statement_meaning, body_meaning}
 use Rattle.kernel_eval.proofs.ConditionLemmas.{kept_by_expressions}
 use Rattle.kernel_eval.proofs.ElementExpressionLemmas.{IsElementOf, gives_element}
 use Rattle.kernel_eval.proofs.PreservationLemmas.{keeps_body, leads, element_keeps}

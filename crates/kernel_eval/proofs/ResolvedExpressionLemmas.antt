@@ -1,10 +1,9 @@
 -- The code of an expression simulates it.
-use Rattle.std.proofs.Common.{◌≡◌, ◌<◌, Bool, true, false, cond, List, [], ◌∷◌, ◌++◌, map, get_or, refl, sym, ap, subst, ◌∙◌, append_assoc, append-nil}
+use Rattle.std.proofs.Common.{◌≡◌, Bool, true, false, cond, List, [], ◌∷◌, ◌++◌, map, get_or, refl, sym, ap, subst, ◌∙◌, append_assoc, append-nil}
 use Rattle.std.proofs.lemmas.Bool.{lt-ltb, and_parts}
-use Rattle.std.specs.Option.{option_map, option_and_then}
-use Rattle.std.specs.Prelude.{ℕ, Option, Some, None, ℤ, pos, neg_ℤ, ◌+ℤ◌, ◌-ℤ◌, ◌*ℤ◌, int_div, int_rem, int_le, not, ◌&&◌, ◌||◌, if◌then◌else◌, Result, Ok, Err}
+use Rattle.std.specs.Option.{option_and_then}
+use Rattle.std.specs.Prelude.{ℕ, Option, Some, None, ℤ, pos, neg_ℤ, ◌+ℤ◌, ◌-ℤ◌, ◌*ℤ◌, int_div, int_le, ◌&&◌, ◌||◌, if◌then◌else◌, Result, Ok, Err}
 use Rattle.liszt_base.specs.Kinds.{is_kind}
-use Rattle.liszt_base.specs.declared.accesses.Mode.{Mode}
 use Rattle.liszt_base.specs.declared.accesses.Mode.TheVariants.{Read}
 use Rattle.liszt_base.specs.declared.accesses.Spot.{Spot}
 use Rattle.liszt_base.specs.declared.answers.Place.{Place}
@@ -22,7 +21,6 @@ use Rattle.liszt_tree.specs.declared.tree.Rel.TheVariants as rel
 use Rattle.liszt_tree.specs.declared.tree.Sign.{Sign}
 use Rattle.liszt_tree.specs.declared.tree.Sign.TheVariants as sign
 use Rattle.liszt_tree.specs.Tree.{Expression, Number, Name, Field, Call, Towards, Neg, Not, Chain, Compare, Links, no_links, link}
-use Rattle.resolved_code.specs.declared.accesses.AccessAt.{AccessAt}
 use Rattle.resolved_code.specs.declared.expressions.Arithmetic.{Arithmetic}
 use Rattle.resolved_code.specs.declared.expressions.Arithmetic.TheVariants as arithmetic
 use Rattle.resolved_code.specs.declared.expressions.Connective.{Connective}
@@ -37,8 +35,8 @@ use Rattle.resolved_code.specs.declared.expressions.NumberLink.{NumberLink}
 use Rattle.resolved_code.specs.declared.expressions.TruthCode.{TruthCode}
 use Rattle.resolved_code.specs.declared.expressions.TruthCode.TheVariants as truth
 use Rattle.resolved_code.specs.declared.expressions.TruthLink.{TruthLink}
-use Rattle.topo_operators.specs.Operands.{IsElement, IsNilOrElement}
-use Rattle.topo_operators.specs.Operators.{head, tail, inside, outside, flip, towards, same, valid, unflipped, reversed, points_to, tail_of, head_of, inside_of, outside_of}
+use Rattle.topo_operators.specs.Operands.{IsNilOrElement}
+use Rattle.topo_operators.specs.Operators.{flip, towards, same, valid, unflipped, reversed, points_to, tail_of, head_of, inside_of, outside_of}
 use Rattle.topo_operators.proofs.ResultLemmas.{nil_or_result, end_of, side_of}
 use Rattle.mesh_topology.specs.Elements.{count}
 use Rattle.phase_types.specs.declared.resolution.ChainCode.{ChainCode}
@@ -47,11 +45,10 @@ use Rattle.phase_types.specs.declared.resolution.Resolution.{Resolution}
 use Rattle.phase_types.specs.declared.resolution.Resolution.TheVariants as resolution
 use Rattle.phase_types.specs.declared.resolution.TypedCode.{TypedCode}
 use Rattle.phase_types.specs.declared.resolution.TypedCode.TheVariants as typed
-use Rattle.phase_types.specs.Environments.{Binding, FieldName, ScalarName, binding_of, is_built_in}
-use Rattle.phase_types.specs.Resolve.{fails, Names, Accesses, resolution_of, first_access, with_access, after_first, resolved_name, named_field, element_of_kind, call_code, called_code, towards_code, is_equality, comparison_code, negated, inverted, arithmetic_of, connective_of, number_link, truth_link, number_operand as number_operand_code, truth_operand as truth_operand_code, first_of_chain, extended_chain, number_chain, truth_chain, whole_chain, resolved_expression, resolved_links}
+use Rattle.phase_types.specs.Environments.{Binding, FieldName, binding_of, is_built_in}
+use Rattle.phase_types.specs.Resolve.{fails, Names, Accesses, resolution_of, with_access, resolved_name, named_field, element_of_kind, call_code, called_code, towards_code, is_equality, comparison_code, negated, inverted, arithmetic_of, connective_of, number_link, truth_link, first_of_chain, extended_chain, number_chain, truth_chain, whole_chain, resolved_expression, resolved_links}
 use Rattle.phase_types.specs.Types.{are_towards_kinds, is_sameness}
-use Rattle.phase_types.specs.Walk.{Subject, OfField, OfScalar, is_mode}
-use Rattle.phase_types.proofs.ModeLemmas.{modes_are}
+use Rattle.phase_types.specs.Walk.{OfField, OfScalar}
 use Rattle.code_eval.specs.Acts.{Act}
 use Rattle.code_eval.specs.Executions as code
 use Rattle.code_eval.specs.declared.activation.Activation.{Activation}
@@ -59,12 +56,11 @@ use Rattle.code_eval.specs.Executions.{Execution, ◌>>=◌}
 use Rattle.code_eval.specs.Meaning as resolved
 use Rattle.code_eval.specs.Stops.{Stop}
 use Rattle.code_eval.proofs.LayerLemmas.{slot_is, call_is, towards_is, constant_is, local_is, scalar_is, field_is, id_is, neg_is, chain_is, valid_is, not_is, truth_chain_is, compare_numbers_is, compare_elements_is}
-use Rattle.kernel_eval.specs.Meaning.{Value, NumberValue, TruthValue, ElementValue, number_of, truth_of, element_of, is_in_range, built_in_value, spot_of, checked_number, checked_division, operator_result, is_decided, negation, complement, holds, comparison_result, id_result, call_result, scalar_read, read_spot, spot_value, field_read, name_read, trap, meaning, links_meaning}
+use Rattle.kernel_eval.specs.Meaning.{Value, NumberValue, TruthValue, ElementValue, number_of, truth_of, element_of, is_in_range, built_in_value, spot_of, checked_number, checked_division, operator_result, is_decided, negation, complement, comparison_result, id_result, call_result, scalar_read, read_spot, spot_value, field_read, name_read, meaning, links_meaning}
 use Rattle.kernel_eval.specs.Outcomes.{Computation, and_then, pure, if_then_else}
 use Rattle.kernel_eval.specs.States.{EvaluationState, value_in, scalar_value, local_bound_to, element_bound_to, with_act}
 use Rattle.kernel_eval.proofs.ResolvingLemmas.{IfOk, ok_then, ok_weaken, ok_under, in_sequence, Within, access_known}
 use Rattle.kernel_eval.proofs.SimulationLemmas.{Setting, known_mode, NameAgrees, Agrees, IsNested, Matches, Simulates, extends_itself, nested_itself, simulates_then, simulates_if, simulates_value, simulates_trap, simulates_as}
-
 
 -- VALUES alike
 abbrev pub IsNumber : Value → ℤ → Type 0
@@ -179,7 +175,14 @@ module _ (c : Setting) (names : Names) where
   -- FIELDS
   with_act_agrees : (act : Act) (m : EvaluationState) (a : Activation) → Agrees c names m a → Agrees c names (with_act act m) a
   with_act_agrees act m a r = record {
-    elem = r.elem; turns = r.turns; named = r.named; fields = r.fields; scalars = r.scalars; partials = r.partials; numbers_room = r.numbers_room; elements_room = r.elements_room;
+    elem = r.elem;
+    turns = r.turns;
+    named = r.named;
+    fields = r.fields;
+    scalars = r.scalars;
+    partials = r.partials;
+    numbers_room = r.numbers_room;
+    elements_room = r.elements_room;
   }
 
   with_act_nested : (act : Act) (m : EvaluationState) → IsNested names m (with_act act m)

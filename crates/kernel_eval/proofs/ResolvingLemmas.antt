@@ -61,7 +61,7 @@ added_known : (c : Setting) (accesses : List AccessAt) (access : AccessAt) → f
 added_known c accesses access none w = (
   λ subject found is. w subject found (find_kept (λ other. is_subject subject other.subject) accesses access found is),
   ap (option_map (λ access. access.mode))
-  (w access.subject access (find_added (λ other. is_subject access.subject other.subject) accesses access none (same_subjects access.subject access.subject refl))),
+      (w access.subject access (find_added (λ other. is_subject access.subject other.subject) accesses access none (same_subjects access.subject access.subject refl))),
 )
 
 again_known : (c : Setting) (accesses : List AccessAt) (access first : AccessAt) → first_access accesses access.subject ≡ Some first → is_mode access.mode first.mode ≡ true

@@ -28,8 +28,8 @@ use Rattle.code_eval.specs.Executions.{Execution, ◌>>=◌}
 use Rattle.code_eval.specs.Stops.{Stop, Trapped, NoMeaning}
 use Rattle.kernel_eval.specs.Iterations.{partials_after}
 use Rattle.kernel_eval.specs.Meaning.{trap, in_block, evaluation_turns}
-use Rattle.kernel_eval.specs.Outcomes.{Computation, Outcome, pure, skip, modify, continue_with, and_then, if_then_else, for_each, take_turn, loop_within, loop}
-use Rattle.kernel_eval.specs.States.{EvaluationState, value_in, scalar_value, local_bound_to, element_bound_to, with_state, after_block}
+use Rattle.kernel_eval.specs.Outcomes.{Computation, pure, skip, modify, continue_with, and_then, if_then_else, for_each, take_turn, loop_within, loop}
+use Rattle.kernel_eval.specs.States.{EvaluationState, value_in, scalar_value, local_bound_to, element_bound_to, after_block}
 
 -- THE SETTING of an iteration: its mesh, its site, the values of its reads, the first accesses of its comprehension, the partials at
 -- its start, and the numbers of slots
@@ -205,14 +205,31 @@ module _ {c : Setting} {names : Names} (place : Place) (kind : TrapKind) {test :
     (tests : Simulates c Test (Agrees c names) (Agrees c names) names test t) (bodies : Simulates c Same (Agrees c names) (Agrees c names) names body p) where
   with_turns_agrees : (n : ℕ) (m : EvaluationState) (a : Activation) → Agrees c names m a → Agrees c names (evaluation_turns.set_remaining n m) (code.with_turns n a)
   with_turns_agrees n m a r = record {
-    elem = r.elem; turns = refl; named = r.named; fields = r.fields; scalars = r.scalars; partials = r.partials; numbers_room = r.numbers_room; elements_room = r.elements_room;
+    elem = r.elem;
+    turns = refl;
+    named = r.named;
+    fields = r.fields;
+    scalars = r.scalars;
+    partials = r.partials;
+    numbers_room = r.numbers_room;
+    elements_room = r.elements_room;
   }
 
   same_before : (n : ℕ) (before m : EvaluationState) (a : Activation) (acts : List Act) (x y : Result (Unit {0}) Stop)
       → Matches c Same (Agrees c names) names (evaluation_turns.set_remaining n before) m a acts x y → Matches c Same (Agrees c names) names before m a acts x y
-  same_before n before m a acts (Ok x) (Ok y) h = (h.0, h.1, record {
-    new_locals = h.2.new_locals; locals = h.2.locals; locals_are_new = h.2.locals_are_new; new_elements = h.2.new_elements; elements = h.2.elements; elements_are_new = h.2.elements_are_new;
-  }, h.3)
+  same_before n before m a acts (Ok x) (Ok y) h = (
+    h.0,
+    h.1,
+    record {
+      new_locals = h.2.new_locals;
+      locals = h.2.locals;
+      locals_are_new = h.2.locals_are_new;
+      new_elements = h.2.new_elements;
+      elements = h.2.elements;
+      elements_are_new = h.2.elements_are_new;
+    },
+    h.3,
+  )
   same_before n before m a acts (Err (Trapped t)) (Err (Trapped u)) h = h
   same_before n before m a acts (Err NoMeaning) y h = tt
   same_before n before m a acts (Ok x) (Err u) h = h
@@ -228,8 +245,10 @@ module _ {c : Setting} {names : Names} (place : Place) (kind : TrapKind) {test :
       (body (evaluation_turns.set_remaining n m)).answer (p c.view (code.with_turns n a)).answer (bodies.at (evaluation_turns.set_remaining n m) (code.with_turns n a) (with_turns_agrees n m a r))
 
   turn : Simulates c Same (Agrees c names) (Agrees c names) names (λ m. take_turn evaluation_turns (trap kind place) body m.state.turns m) (λ view a. code.take_turn (code.trap kind place) p a.turns view a)
-  turn = record { at = λ m a r. subst (λ n. Matches c Same (Agrees c names) names m (take_turn evaluation_turns (trap kind place) body m.state.turns m).after (code.take_turn (code.trap kind place) p n c.view a).after
-      (code.take_turn (code.trap kind place) p n c.view a).acts (take_turn evaluation_turns (trap kind place) body m.state.turns m).answer (code.take_turn (code.trap kind place) p n c.view a).answer) r.turns (turn_with m.state.turns m a r) }
+  turn = record {
+    at = λ m a r. subst (λ n. Matches c Same (Agrees c names) names m (take_turn evaluation_turns (trap kind place) body m.state.turns m).after (code.take_turn (code.trap kind place) p n c.view a).after
+        (code.take_turn (code.trap kind place) p n c.view a).acts (take_turn evaluation_turns (trap kind place) body m.state.turns m).answer (code.take_turn (code.trap kind place) p n c.view a).answer) r.turns (turn_with m.state.turns m a r);
+  }
 
   within : (n : ℕ) → Simulates c Same (Agrees c names) (Agrees c names) names (loop_within evaluation_turns (trap kind place) test body n) (code.loop_within (code.trap kind place) t p n)
   within zero = simulates_then (extends_itself names) tests (λ b d e.
@@ -241,10 +260,12 @@ module _ {c : Setting} {names : Names} (place : Place) (kind : TrapKind) {test :
       (simulates_if b (simulates_then (extends_itself names) turn (λ u v same. within n)) simulates_skip))
 
   pub simulates_loop : Simulates c Same (Agrees c names) (Agrees c names) names (loop evaluation_turns (trap kind place) test body) (code.loop (code.trap kind place) t p)
-  simulates_loop = record { at = λ m a r.
-      subst (λ n. Matches c Same (Agrees c names) names m (loop_within evaluation_turns (trap kind place) test body m.state.turns m).after (code.loop_within (code.trap kind place) t p n c.view a).after
-      (code.loop_within (code.trap kind place) t p n c.view a).acts (loop_within evaluation_turns (trap kind place) test body m.state.turns m).answer (code.loop_within (code.trap kind place) t p n c.view a).answer)
-      r.turns ((within m.state.turns).at m a r) }
+  simulates_loop = record {
+    at = λ m a r.
+        subst (λ n. Matches c Same (Agrees c names) names m (loop_within evaluation_turns (trap kind place) test body m.state.turns m).after (code.loop_within (code.trap kind place) t p n c.view a).after
+        (code.loop_within (code.trap kind place) t p n c.view a).acts (loop_within evaluation_turns (trap kind place) test body m.state.turns m).answer (code.loop_within (code.trap kind place) t p n c.view a).answer)
+        r.turns ((within m.state.turns).at m a r);
+  }
 
 some_is_none : {A : Type 0} (x : A) → Some x ≡ None → ⊥
 some_is_none x e = cc
@@ -287,10 +308,13 @@ module _ {V : Type 0} where
 other_names : (names : Names) (name : List ℕ) (r : Resolution) → resolution_of names name ≡ Some r → (keys : List (List ℕ)) → AllByRecursion (IsUnresolved names) keys
     → AllByRecursion (λ k. bytes_eq name k ≡ false) keys
 other_names names name r is [] h = tt
-other_names names name r is (k ∷ keys) h = (elim (cases_Bool (bytes_eq name k)) [
-  | inl same ↦ absurd (some_is_none r (sym is ∙ ap (resolution_of names) ((bytes_eq-Decides name k).0 same) ∙ h.0))
-  | inr other ↦ other
-], other_names names name r is keys h.1)
+other_names names name r is (k ∷ keys) h = (
+  elim (cases_Bool (bytes_eq name k)) [
+    | inl same ↦ absurd (some_is_none r (sym is ∙ ap (resolution_of names) ((bytes_eq-Decides name k).0 same) ∙ h.0))
+    | inr other ↦ other
+  ],
+  other_names names name r is keys h.1,
+)
 
 module _ {names : Names} {before m : EvaluationState} (nested : IsNested names before m) where
   locals_dropped : (after_block before m).locals ≡ drop (length nested.new_locals) m.locals
@@ -326,14 +350,20 @@ module _ {names : Names} {before m : EvaluationState} (nested : IsNested names b
         )
     go (Some found) is =
         let inner : NameAgrees c a' name (local_bound_to m name) (element_bound_to m name) (Some found) =
-            subst (NameAgrees c a' name (local_bound_to m name) (element_bound_to m name)) (e.kept name found is) (h.named name) in
+        subst (NameAgrees c a' name (local_bound_to m name) (element_bound_to m name)) (e.kept name found is) (h.named name) in
         subst (λ local. NameAgrees c a' name local (element_bound_to (after_block before m) name) (Some found)) (sym (local_kept name found is))
         (subst (λ element. NameAgrees c a' name (local_bound_to m name) element (Some found)) (sym (element_kept name found is)) inner)
 
   pub left : {c : Setting} {later : Names} (a a' : Activation) → Extends names later → Agrees c names before a → Agrees c later m a' → Agrees c names (after_block before m) a'
   left a a' e r h = record {
-    elem = h.elem; turns = h.turns; named = name_kept a a' e r h; fields = h.fields; scalars = h.scalars; partials = h.partials;
-    numbers_room = h.numbers_room; elements_room = h.elements_room;
+    elem = h.elem;
+    turns = h.turns;
+    named = name_kept a a' e r h;
+    fields = h.fields;
+    scalars = h.scalars;
+    partials = h.partials;
+    numbers_room = h.numbers_room;
+    elements_room = h.elements_room;
   }
 
   nested_after_block : IsNested names before (after_block before m)

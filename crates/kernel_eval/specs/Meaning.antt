@@ -1,9 +1,7 @@
 -- What expressions and the bodies of comprehensions mean. This project's own profile after Liszt (DeVito et al., Supercomputing
 -- 2011).
-use Rattle.std.specs.Prelude.{ℕ, ◌==◌, ◌&&◌, ◌||◌, ◌^◌, not, Bool, false, if◌then◌else◌, Option, Some, None, List, [], ◌∷◌, slice_get, ℤ, pos, neg_ℤ, ◌+ℤ◌, ◌-ℤ◌, ◌*ℤ◌, int_lt, int_le, int_div, int_rem}
-use Rattle.std.specs.Option.{option_map, option_and_then}
+use Rattle.std.specs.Prelude.{ℕ, ◌&&◌, ◌||◌, not, Bool, false, if◌then◌else◌, Option, Some, None, List, ℤ, pos, neg_ℤ, ◌+ℤ◌, ◌-ℤ◌, ◌*ℤ◌, int_le, int_div, int_rem}
 use Rattle.liszt_base.specs.MeshLists.{MeshLists}
-use Rattle.liszt_base.specs.Reductions.{fold, word, value}
 use Rattle.liszt_base.specs.declared.accesses.Mode.TheVariants.{Read}
 use Rattle.liszt_base.specs.declared.accesses.Spot.{Spot}
 use Rattle.liszt_base.specs.declared.answers.Place.{Place}
@@ -16,7 +14,7 @@ use Rattle.liszt_tree.specs.declared.tree.Fun.TheVariants.{Head, Tail, Inside, O
 use Rattle.liszt_tree.specs.declared.tree.How.{How}
 use Rattle.liszt_tree.specs.declared.tree.How.TheVariants.{Set, Fold, Less}
 use Rattle.liszt_tree.specs.declared.tree.Rel.{Rel}
-use Rattle.liszt_tree.specs.declared.tree.Rel.TheVariants.{Same, Other, Below, AtMost, Above, AtLeast}
+use Rattle.liszt_tree.specs.declared.tree.Rel.TheVariants.{Same, Other}
 use Rattle.liszt_tree.specs.declared.tree.Sign.{Sign}
 use Rattle.liszt_tree.specs.declared.tree.Sign.TheVariants.{Or, And, Plus, Minus, Times, Over, Rest}
 use Rattle.liszt_tree.specs.Tree.{Expression, Number, Name, Field, Call, Towards, Neg, Not, Chain, Compare, Links, no_links, link}

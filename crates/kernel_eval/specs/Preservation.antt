@@ -1,5 +1,5 @@
 -- What computations preserve. This project's own.
-use Rattle.std.specs.Prelude.{◌≡◌, ℕ, ◌≤◌, ◌==◌, ◌&&◌, ◌++◌, Bool, if◌then◌else◌, Option, Some, None, List, [], ◌∷◌, ℤ}
+use Rattle.std.specs.Prelude.{◌≡◌, ℕ, ◌≤◌, ◌==◌, ◌++◌, Bool, if◌then◌else◌, Option, Some, None, List, [], ◌∷◌, ℤ}
 use Rattle.std.specs.Option.{option_map}
 use Rattle.liszt_base.specs.Reductions.{fold}
 use Rattle.liszt_base.specs.declared.accesses.Mode.{Mode}
