@@ -18,6 +18,7 @@ pub mod ResolvingLemmas
 pub mod ScalarAccessLemmas
 pub mod ShapeLemmas
 pub mod SimulationLemmas
+pub mod SlotLemmas
 pub mod TraversalLemmas
 pub mod TripleLemmas
 pub mod TypedEvaluationLemmas
