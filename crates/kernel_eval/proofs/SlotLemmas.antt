@@ -262,3 +262,80 @@ updated_elsewhere name other value (entry ∷ entries) e = elim (cases_Bool (byt
       ≡ option_map (λ (entry : List ℕ × ℤ). entry.1) (cond b (Some entry) (find (λ (entry : List ℕ × ℤ). bytes_eq other entry.0) entries))
   by true h = refl
   by false h = h
+
+module _ (c : Setting) (names : Names) (frame : Frame) (name : List ℕ) (slot : ℕ) (here : resolution_of names name ≡ Some (resolution.Number slot)) (fit : SlotsFit names frame)
+    (n : ℤ) (m : EvaluationState) (a : Activation) (r : Agrees c names m a) (room : frame.numbers ≤ c.numbers) where
+  abbrev LocalAgrees : List ℕ → Option ℤ → Option Resolution → Type 0
+  LocalAgrees other local found = NameAgrees c (resolved.with_number slot n a) other local (element_bound_to m other) found
+
+  old_local : Some (get_or a.numbers slot (pos 0)) ≡ local_bound_to m name
+  old_local = sym (subst (NameAgrees c a name (local_bound_to m name) (element_bound_to m name)) here (r.named name))
+
+  -- a name that is not assigned
+  unassigned : (other : List ℕ) (found : Option Resolution) → resolution_of names other ≡ found → bytes_eq other name ≡ false
+      → NameAgrees c a other (local_bound_to m other) (element_bound_to m other) found → LocalAgrees other (local_bound_to m other) found
+  unassigned other None is not h = h
+  unassigned other (Some (resolution.Field field kind)) is not h = h
+  unassigned other (Some (resolution.Scalar scalar)) is not h = h
+  unassigned other (Some (resolution.Element other_slot kind)) is not h = h
+  unassigned other (Some (resolution.Number other_slot)) is not h =
+      h ∙ ap Some (sym (get_or-set_other a.numbers slot other_slot n (pos 0) (λ same.
+      let names_same : other ≡ name = fit.apart other name slot (is ∙ ap (λ s. Some (resolution.Number s)) same) here in
+      let bad : true ≡ false = sym ((bytes_eq-Decides other name).1 names_same) ∙ not in cc)))
+
+  assigned_named : (other : List ℕ) → LocalAgrees other (local_bound_to (with_local_value name n m) other) (resolution_of names other)
+  assigned_named other = elim (cases_Bool (bytes_eq other name)) [
+    | inl same ↦
+        let is : other ≡ name = (bytes_eq-Decides other name).0 same in
+        subst (λ other. LocalAgrees other (local_bound_to (with_local_value name n m) other) (resolution_of names other)) (sym is)
+        (subst (LocalAgrees name (local_bound_to (with_local_value name n m) name)) (sym here)
+        (updated_here name n (get_or a.numbers slot (pos 0)) m.locals (sym old_local)
+        ∙ ap Some (sym (get_or-set_same a.numbers slot n (pos 0) (omega (arith, fit.numbers name slot here, room, r.numbers_room))))))
+    | inr not ↦
+        subst (λ local. LocalAgrees other local (resolution_of names other)) (sym (updated_elsewhere name other n m.locals not))
+        (unassigned other (resolution_of names other) refl not (r.named other))
+  ]
+
+  pub local_assigned : Agrees c names (with_local_value name n m) (resolved.with_number slot n a)
+  local_assigned = record {
+    elem = r.elem; turns = r.turns; named = assigned_named; fields = r.fields; scalars = r.scalars; partials = r.partials;
+    numbers_room = length-set a.numbers slot n ∙ r.numbers_room; elements_room = r.elements_room;
+  }
+
+pub assigned_nested : (names : Names) (name : List ℕ) (n : ℤ) (m : EvaluationState) → IsNested names m (with_local_value name n m)
+assigned_nested names name n m = record { new_locals = []; locals = update_keys name n m.locals; locals_are_new = tt; new_elements = []; elements = refl; elements_are_new = tt }
+
+pub local_nested : (names : Names) (name : List ℕ) (n : ℤ) (m : EvaluationState) → resolution_of names name ≡ None → IsNested names m (with_local name n m)
+local_nested names name n m new = record { new_locals = name ∷ []; locals = refl; locals_are_new = (new, tt); new_elements = []; elements = refl; elements_are_new = tt }
+
+pub element_nested : (names : Names) (name : List ℕ) (x : Option Elem) (m : EvaluationState) → resolution_of names name ≡ None → IsNested names m (with_element name x m)
+element_nested names name x m new = record { new_locals = []; locals = refl; locals_are_new = tt; new_elements = name ∷ []; elements = refl; elements_are_new = (new, tt) }
+
+-- OTHER FIELDS AND SCALARS keep their values.
+pub other_field : (spot other : Spot) (value : ℤ) (fields : Fields) → spot.field ≢ other.field → value_in (with_value spot value fields) other ≡ value_in fields other
+other_field spot other value fields apart = ap (option_and_then (λ values. slice_get values other.id)) (looked fields) where
+  one : (entry : ℕ × List ℤ) (rest : List (ℕ × List ℤ)) → lookup (λ number. number == other.field) (map (updated_entry spot value) rest) ≡ lookup (λ number. number == other.field) rest
+      → (b : Bool) → (entry.0 == spot.field) ≡ b → (d : Bool) → (entry.0 == other.field) ≡ d
+      → lookup (λ number. number == other.field) (map (updated_entry spot value) (entry ∷ rest)) ≡ lookup (λ number. number == other.field) (entry ∷ rest)
+  one entry rest h true e true f = absurd (apart (sym (eqb-true entry.0 spot.field e) ∙ eqb-true entry.0 other.field f))
+  one entry rest h true e false f = rw (e, f) h
+  one entry rest h false e d f = rw e (by d f) where
+    by : (d : Bool) → (entry.0 == other.field) ≡ d → lookup (λ number. number == other.field) (entry ∷ map (updated_entry spot value) rest) ≡ lookup (λ number. number == other.field) (entry ∷ rest)
+    by true f = rw f refl
+    by false f = rw f h
+
+  looked : (fields : Fields) → lookup (λ number. number == other.field) (map (updated_entry spot value) fields) ≡ lookup (λ number. number == other.field) fields
+  looked [] = refl
+  looked (entry ∷ rest) = one entry rest (looked rest) (entry.0 == spot.field) refl (entry.0 == other.field) refl
+
+pub other_scalar : (scalar other : ℕ) (value : ℤ) (scalars : List (ℕ × ℤ)) → scalar ≢ other
+    → lookup (λ number. number == other) (map_update (λ number. number == scalar) value scalars) ≡ lookup (λ number. number == other) scalars
+other_scalar scalar other value [] apart = refl
+other_scalar scalar other value (entry ∷ rest) apart = one (other_scalar scalar other value rest apart) (entry.0 == scalar) refl (entry.0 == other) refl where
+  one : lookup (λ number. number == other) (map_update (λ number. number == scalar) value rest) ≡ lookup (λ number. number == other) rest
+      → (b : Bool) → (entry.0 == scalar) ≡ b → (d : Bool) → (entry.0 == other) ≡ d
+      → lookup (λ number. number == other) (map_update (λ number. number == scalar) value (entry ∷ rest)) ≡ lookup (λ number. number == other) (entry ∷ rest)
+  one h true e true f = absurd (apart (sym (eqb-true entry.0 scalar e) ∙ eqb-true entry.0 other f))
+  one h true e false f = rw (e, f) h
+  one h false e true f = rw (e, f) refl
+  one h false e false f = rw (e, f) h
