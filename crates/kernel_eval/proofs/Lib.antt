@@ -14,6 +14,7 @@ pub mod PartLemmas
 pub mod PreservationLemmas
 pub mod ReductionLemmas
 pub mod ResolvedExpressionLemmas
+pub mod ResolvedStatementLemmas
 pub mod ResolvingLemmas
 pub mod ScalarAccessLemmas
 pub mod ShapeLemmas

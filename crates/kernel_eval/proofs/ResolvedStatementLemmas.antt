@@ -1,0 +1,229 @@
+-- The code of statements simulates them.
+use Rattle.std.proofs.Common.{◌≡◌, ◌≢◌, ◌<◌, ◌≤◌, ◌+◌, ℕ, suc, Bool, true, false, List, [], ◌∷◌, ◌++◌, map, length, get_or, refl, sym, ap, subst, ◌∙◌, append_assoc, append-nil, arith}
+use Rattle.std.proofs.lemmas.Bool.{lt-ltb}
+use Rattle.std.proofs.lemmas.List.{length-append, length-set}
+use Rattle.std.specs.List.{AllByRecursion, slice_set}
+use Rattle.std.specs.Prelude.{Option, Some, None, ℤ, pos, nat_lt, ◌&&◌, if◌then◌else◌, Result, Ok, Err}
+use Rattle.liszt_base.specs.Corners.{IsMesh}
+use Rattle.liszt_base.specs.Kinds.{is_kind, has_set, kind_of}
+use Rattle.liszt_base.specs.Reductions.{fold}
+use Rattle.liszt_base.specs.declared.accesses.Mode.{Mode}
+use Rattle.liszt_base.specs.declared.accesses.Mode.TheVariants.{Read, Write, Reduce}
+use Rattle.liszt_base.specs.declared.accesses.Spot.{Spot}
+use Rattle.liszt_base.specs.declared.answers.Place.{Place}
+use Rattle.liszt_base.specs.declared.answers.ProgramFault.{ProgramFault}
+use Rattle.liszt_base.specs.declared.answers.ProgramWhat.TheVariants.{TypeMismatch, BuiltinWrite}
+use Rattle.liszt_base.specs.declared.answers.TrapKind.TheVariants.{NilElement, Spent}
+use Rattle.liszt_base.specs.declared.elements.Elem.{Elem}
+use Rattle.liszt_base.specs.declared.elements.Kind.{Kind}
+use Rattle.liszt_base.specs.declared.elements.Op.TheVariants.{Add}
+use Rattle.liszt_base.specs.declared.elements.SetName.{SetName}
+use Rattle.liszt_tree.specs.declared.tree.How.{How}
+use Rattle.liszt_tree.specs.declared.tree.How.TheVariants.{Set, Fold, Less}
+use Rattle.liszt_tree.specs.Tree.{Expression, Statement, Var, Val, Assign, If, While, For, Body, no_statement, statement}
+use Rattle.mesh_topology.specs.Elements.{corner_lists, count}
+use Rattle.resolved_code.specs.declared.expressions.ElementCode.{ElementCode}
+use Rattle.resolved_code.specs.declared.expressions.NumberCode.{NumberCode}
+use Rattle.resolved_code.specs.declared.expressions.TruthCode.{TruthCode}
+use Rattle.resolved_code.specs.declared.statements.StatementCode.{StatementCode}
+use Rattle.resolved_code.specs.declared.statements.StatementCode.TheVariants as statement_code
+use Rattle.topo_operators.specs.Operands.{IsElement, IsNilOrElement, IsSetOperand}
+use Rattle.topo_operators.specs.Operators.{members}
+use Rattle.topo_operators.proofs.ResultLemmas.{members_of}
+use Rattle.phase_types.specs.declared.frame.Frame.{Frame}
+use Rattle.phase_types.specs.declared.resolution.Resolution.{Resolution}
+use Rattle.phase_types.specs.declared.resolution.Resolution.TheVariants as resolution
+use Rattle.phase_types.specs.declared.resolution.TypedCode.{TypedCode}
+use Rattle.phase_types.specs.declared.resolution.TypedCode.TheVariants as typed
+use Rattle.phase_types.specs.Environments.{Binding, FieldName, ScalarName, binding_of, is_built_in}
+use Rattle.phase_types.specs.Resolve.{fails, Names, Accesses, resolution_of, new_name, with_access, number_in as number_of_code, truth_in as truth_of_code, element_in as element_of_code, element_of_kind, element_with_set, resolved_expression, resolved_number, resolved_truth, resolved_element, with_accesses, with_number, with_element, number_name, element_name, assigned_field, with_reduction, resolved_assignment, resolved_field_assignment, declared_number, declared_element, resolved_var, resolved_val, resolved_statement, resolved_body}
+use Rattle.phase_types.specs.Walk.{OfField, OfScalar, mode_by, place_of}
+use Rattle.code_eval.specs.Acts.{Act}
+use Rattle.code_eval.specs.Executions as code
+use Rattle.code_eval.specs.declared.activation.Activation.{Activation}
+use Rattle.code_eval.specs.Executions.{Execution, ◌>>=◌}
+use Rattle.code_eval.specs.Meaning as resolved
+use Rattle.code_eval.proofs.LayerLemmas.{var_is, val_is, assign_local_is, assign_scalar_is, assign_field_is, if_is, while_is, for_is}
+use Rattle.kernel_eval.specs.Iterations.{partials_after, partials_after_fold}
+use Rattle.kernel_eval.specs.Meaning.{spot_of, operand, assigned_value, assign_spot, assign_field, with_scalar_fold, assign_scalar, assign_global, assign_name, in_block, for_each_member, meaning, number_in, truth_in, element_in, statement_meaning, body_meaning, trap}
+use Rattle.kernel_eval.specs.Outcomes.{Computation, and_then, modify, if_then_else, skip, for_each}
+use Rattle.kernel_eval.specs.States.{EvaluationState, ScalarFold, value_in, with_value, with_fields, with_state, with_act, with_scalar_value, scalar_value, local_bound_to, element_bound_to, with_local, with_local_value}
+use Rattle.kernel_eval.specs.States as state
+use Rattle.kernel_eval.proofs.ResolvingLemmas.{IfOk, ok_then, ok_weaken, in_sequence, Within, access_known}
+use Rattle.kernel_eval.proofs.ResolvedExpressionLemmas.{NumberFollows, TruthFollows, ElementFollows, Follows, IsCode, expression_code, number_alone, truth_alone, element_alone, operand_holds, simulates_given}
+use Rattle.kernel_eval.proofs.SimulationLemmas.{Setting, known_mode, NameAgrees, Agrees, IsNested, Extends, extends_itself, extends_then, nested_itself, Matches, Simulates, Same, simulates_then, simulates_if, simulates_trap, simulates_skip, simulates_for_each, simulates_loop, simulates_block, AgreesWithMore}
+use Rattle.kernel_eval.proofs.SlotLemmas.{SlotsFit, Grows, still_fit, extends_by_one, number_fits, element_fits, number_declared, element_declared, local_assigned, assigned_nested, local_nested, element_nested, other_field, other_scalar}
+
+-- THE FRAME after statements is within that of the whole comprehension.
+pub record IsWithinFrame (c : Setting) (frame : Frame) : Type 0 where
+  pub accesses : Within c frame.accesses
+  pub numbers : frame.numbers ≤ c.numbers
+  pub elements : length frame.elements ≤ c.elements
+
+grows_itself : (frame : Frame) → Grows frame frame
+grows_itself frame = record { numbers = omega arith; elements = omega arith }
+
+grows_then : {frame mid later : Frame} → Grows frame mid → Grows mid later → Grows frame later
+grows_then h g = record { numbers = omega (arith, h.numbers, g.numbers); elements = omega (arith, h.elements, g.elements) }
+
+-- partials after one reduction more
+one_more_fold : (partials : List ℤ) (folds : List ScalarFold) (folded : ScalarFold) → partials_after partials (folds ++ folded ∷ []) ≡ partials_after_fold (partials_after partials folds) folded
+one_more_fold partials [] folded = refl
+one_more_fold partials (first ∷ folds) folded = one_more_fold (partials_after_fold partials first) folds folded
+
+module _ (c : Setting) (mesh_is : IsMesh (length c.mesh.points) (corner_lists c.mesh)) where
+  abbrev Statements : Names → Names → Computation EvaluationState (Unit {0}) → Execution (Unit {0}) → Type 0
+  Statements names later computation execution = Simulates c Same (Agrees c names) (Agrees c later) names computation execution
+
+  -- OPERANDS
+  abbrev NumberSimulates : Names → Expression → NumberCode → Type 0
+  NumberSimulates names e x = Simulates c (λ n k. n ≡ k) (Agrees c names) (Agrees c names) names (number_in c.mesh c.globals e) (resolved.number_execution c.mesh x)
+
+  abbrev TruthSimulates : Names → Expression → TruthCode → Type 0
+  TruthSimulates names e x = Simulates c (λ b d. b ≡ d) (Agrees c names) (Agrees c names) names (truth_in c.mesh c.globals e) (resolved.truth_execution c.mesh x)
+
+  abbrev ElementSimulates : Names → Kind → Expression → ElementCode → Type 0
+  ElementSimulates names kind e x =
+      Simulates c (λ y z. (y ≡ z) × IsNilOrElement c.mesh kind z) (Agrees c names) (Agrees c names) names (element_in c.mesh c.globals e) (resolved.element_execution c.mesh x)
+
+  abbrev IsNumberCode : Names → Accesses → Expression → NumberCode × Accesses → Type 0
+  IsNumberCode names accesses e r = Within c r.1 → Within c accesses × NumberSimulates names e r.0
+
+  abbrev IsTruthCode : Names → Accesses → Expression → TruthCode × Accesses → Type 0
+  IsTruthCode names accesses e r = Within c r.1 → Within c accesses × TruthSimulates names e r.0
+
+  abbrev IsElementCode : Names → Accesses → Expression → (Kind × ElementCode) × Accesses → Type 0
+  IsElementCode names accesses e r = Within c r.1 → Within c accesses × ElementSimulates names r.0.0 e r.0.1
+
+  number_code : (names : Names) (accesses : Accesses) (e : Expression)
+      → IfOk (IsNumberCode names accesses e) (resolved_number names accesses e)
+  number_code names accesses e =
+      ok_then (IsCode c names e accesses) (IsNumberCode names accesses e)
+      (resolved_expression names accesses e) _ (expression_code c names accesses e) (λ operand h. by operand.0 operand.1 h) where
+        by : (operand : TypedCode) (later : Accesses) → IsCode c names e accesses (operand, later)
+            → IfOk (IsNumberCode names accesses e)
+            (in_sequence (number_of_code (place_of e) operand) (λ value. Ok (value, later)))
+        by (typed.Number x) later h = λ w. ((h w).0, number_alone c names (h w).1)
+        by _ later h = tt
+
+  truth_code : (names : Names) (accesses : Accesses) (e : Expression)
+      → IfOk (IsTruthCode names accesses e) (resolved_truth names accesses e)
+  truth_code names accesses e =
+      ok_then (IsCode c names e accesses) (IsTruthCode names accesses e)
+      (resolved_expression names accesses e) _ (expression_code c names accesses e) (λ operand h. by operand.0 operand.1 h) where
+        by : (operand : TypedCode) (later : Accesses) → IsCode c names e accesses (operand, later)
+            → IfOk (IsTruthCode names accesses e)
+            (in_sequence (truth_of_code (place_of e) operand) (λ value. Ok (value, later)))
+        by (typed.Truth x) later h = λ w. ((h w).0, truth_alone c names (h w).1)
+        by _ later h = tt
+
+  element_code : (names : Names) (accesses : Accesses) (e : Expression)
+      → IfOk (IsElementCode names accesses e) (resolved_element names accesses e)
+  element_code names accesses e =
+      ok_then (IsCode c names e accesses) (IsElementCode names accesses e)
+      (resolved_expression names accesses e) _ (expression_code c names accesses e) (λ operand h. by operand.0 operand.1 h) where
+        by : (operand : TypedCode) (later : Accesses) → IsCode c names e accesses (operand, later)
+            → IfOk (IsElementCode names accesses e) (in_sequence (element_of_code (place_of e) operand) (λ value. Ok (value, later)))
+        by (typed.Element kind x) later h = λ w. ((h w).0, element_alone c names (h w).1)
+        by _ later h = tt
+
+  -- THE CODE OF A STATEMENT, with the names and the frame after it
+  pub record StatementFollows (names : Names) (frame : Frame) (s : Statement) (made : StatementCode) (later : Names) (after : Frame) : Type 0 where
+    pub accesses : Within c frame.accesses
+    pub grows : Grows frame after
+    pub extends : Extends names later
+    pub fit : SlotsFit later after
+    pub follows : Statements names later (statement_meaning c.mesh c.globals s) (resolved.statement_execution c.mesh made)
+
+  abbrev pub IsStatementCode : Names → Frame → Statement → StatementCode × Names × Frame → Type 0
+  IsStatementCode names frame s r = SlotsFit names frame → IsWithinFrame c r.2 → StatementFollows names frame s r.0 r.1 r.2
+
+  pub record BodyFollows (names : Names) (frame : Frame) (done : List StatementCode) (body : Body) (codes : List StatementCode) (after : Frame) : Type 0 where
+    pub accesses : Within c frame.accesses
+    pub grows : Grows frame after
+    pub new : List StatementCode
+    pub is : codes ≡ done ++ new
+    pub follows : Simulates c Same (Agrees c names) (AgreesWithMore c names) names (body_meaning c.mesh c.globals body) (resolved.body_execution c.mesh new)
+
+  abbrev pub IsBodyCode : Names → Frame → List StatementCode → Body → List StatementCode × Frame → Type 0
+  IsBodyCode names frame done body r = SlotsFit names frame → IsWithinFrame c r.1 → BodyFollows names frame done body r.0 r.1
+
+  -- DECLARATIONS
+  number_step : (names : Names) (frame : Frame) (name : List ℕ) → resolution_of names name ≡ None → SlotsFit names frame → frame.numbers < c.numbers → (n k : ℤ) → n ≡ k
+      → Statements names (names ++ number_name name frame ∷ []) (modify (with_local name n)) (code.modify (resolved.with_number frame.numbers k))
+  number_step names frame name new fit room n k e = subst (λ k. Statements names (names ++ number_name name frame ∷ []) (modify (with_local name n)) (code.modify (resolved.with_number frame.numbers k))) e record {
+    at = λ m a r. (tt, number_declared c names frame name new fit n m a r room, local_nested names name n m new, sym (append-nil m.acts));
+  }
+
+  element_step : (names : Names) (frame : Frame) (name : List ℕ) (kind : Kind) → resolution_of names name ≡ None → SlotsFit names frame → length frame.elements < c.elements → (x y : Option Elem) → x ≡ y
+      → IsNilOrElement c.mesh kind y → Statements names (names ++ element_name name kind frame ∷ []) (modify (state.with_element name x)) (code.modify (resolved.with_element (length frame.elements) y))
+  element_step names frame name kind new fit room x y e of = subst (λ x. Statements names (names ++ element_name name kind frame ∷ []) (modify (state.with_element name x)) (code.modify (resolved.with_element (length frame.elements) y))) (sym e) record {
+    at = λ m a r. (tt, element_declared c names frame name new fit kind y of m a r room, element_nested names name y m new, sym (append-nil m.acts));
+  }
+
+  abbrev Declared : Type 0
+  Declared = ℕ × Names × Frame
+
+  abbrev Made : Type 0
+  Made = StatementCode × Names × Frame
+
+  abbrev new_number : Names → Frame → List ℕ → Declared
+  new_number names frame name = (frame.numbers, names ++ number_name name frame ∷ [], with_number frame)
+
+  abbrev number_declared_by : Names → Frame → List ℕ → Place → Option Resolution → Result Declared ProgramFault
+  number_declared_by names frame name at found = in_sequence (new_name found at) (λ new. Ok (new_number names frame name))
+
+  abbrev new_element : Names → Frame → List ℕ → Kind → Declared
+  new_element names frame name kind = (length frame.elements, names ++ element_name name kind frame ∷ [], with_element kind frame)
+
+  abbrev element_declared_by : Names → Frame → List ℕ → Place → Kind → Option Resolution → Result Declared ProgramFault
+  element_declared_by names frame name at kind found = in_sequence (new_name found at) (λ new. Ok (new_element names frame name kind))
+
+  abbrev var_made : NumberCode → Declared → Result Made ProgramFault
+  var_made value declared = Ok (statement_code.Var declared.0 value, declared.1, declared.2)
+
+  abbrev val_made : ElementCode → Declared → Result Made ProgramFault
+  val_made value declared = Ok (statement_code.Val declared.0 value, declared.1, declared.2)
+
+  var_code : (names : Names) (frame : Frame) (place : Place) (name : List ℕ) (at : Place) (init : Expression) → IfOk (IsStatementCode names frame (Var place name at init)) (resolved_var names frame name at init)
+  var_code names frame place name at init =
+      ok_then (IsNumberCode names frame.accesses init)
+      (IsStatementCode names frame (Var place name at init)) (resolved_number names frame.accesses init) _ (number_code names frame.accesses init) (λ value h. by value.0 value.1 (resolution_of names name) refl h) where
+        by : (value : NumberCode) (mid : Accesses) (found : Option Resolution) → resolution_of names name ≡ found
+            → IsNumberCode names frame.accesses init (value, mid)
+            → IfOk (IsStatementCode names frame (Var place name at init))
+            (in_sequence (number_declared_by names (with_accesses mid frame) name at found) (var_made value))
+        by value mid (Some other) is h = tt
+        by value mid None is h = λ fit within.
+            let fit' : SlotsFit names (with_accesses mid frame) = record { numbers = fit.numbers; elements = fit.elements; apart = fit.apart } in
+            let operand = h within.accesses in
+            record {
+              accesses = operand.0;
+              grows = record { numbers = omega arith; elements = omega arith };
+              extends = extends_by_one names (number_name name (with_accesses mid frame));
+              fit = number_fits names (with_accesses mid frame) name is fit' (with_number (with_accesses mid frame)) refl refl;
+              follows = rw (var_is c.mesh frame.numbers value) (simulates_then {next = λ n. modify (with_local name n)} (extends_itself names) operand.1
+                  (λ n k e. number_step names (with_accesses mid frame) name is fit' (omega (arith, within.numbers)) n k e));
+            }
+
+  val_code : (names : Names) (frame : Frame) (place : Place) (name : List ℕ) (at : Place) (init : Expression) → IfOk (IsStatementCode names frame (Val place name at init)) (resolved_val names frame name at init)
+  val_code names frame place name at init =
+      ok_then (IsElementCode names frame.accesses init)
+      (IsStatementCode names frame (Val place name at init)) (resolved_element names frame.accesses init) _ (element_code names frame.accesses init) (λ value h. by value.0.0 value.0.1 value.1 (resolution_of names name) refl h) where
+        by : (kind : Kind) (value : ElementCode) (mid : Accesses) (found : Option Resolution) → resolution_of names name ≡ found
+            → IsElementCode names frame.accesses init ((kind, value), mid)
+            → IfOk (IsStatementCode names frame (Val place name at init))
+            (in_sequence (element_declared_by names (with_accesses mid frame) name at kind found) (val_made value))
+        by kind value mid (Some other) is h = tt
+        by kind value mid None is h = λ fit within.
+            let fit' : SlotsFit names (with_accesses mid frame) = record { numbers = fit.numbers; elements = fit.elements; apart = fit.apart } in
+            let operand = h within.accesses in
+            let longer : length (frame.elements ++ kind ∷ []) ≡ length frame.elements + 1 = length-append frame.elements (kind ∷ []) in
+            record {
+              accesses = operand.0;
+              grows = record { numbers = omega arith; elements = omega (arith, longer) };
+              extends = extends_by_one names (element_name name kind (with_accesses mid frame));
+              fit = element_fits names (with_accesses mid frame) name kind is fit' (with_element kind (with_accesses mid frame)) refl refl;
+              follows = rw (val_is c.mesh (length frame.elements) value) (simulates_then {next = λ x. modify (state.with_element name x)} (extends_itself names) operand.1
+                  (λ x y e. element_step names (with_accesses mid frame) name kind is fit' (omega (arith, within.elements, longer)) x y e.0 e.1));
+            }
