@@ -1,5 +1,5 @@
 -- The code of statements simulates them.
-use Rattle.std.proofs.Common.{◌≡◌, ◌≢◌, ◌<◌, ◌≤◌, ◌+◌, ℕ, suc, Bool, true, false, List, [], ◌∷◌, ◌++◌, map, length, get_or, refl, sym, ap, subst, ◌∙◌, append_assoc, append-nil, arith}
+use Rattle.std.proofs.Common.{◌≡◌, ◌≢◌, ◌<◌, ◌≤◌, ◌+◌, ℕ, suc, Bool, true, false, List, [], ◌∷◌, ◌++◌, map, length, get_or, refl, sym, ap, ap₂, subst, ◌∙◌, append_assoc, append-nil, arith}
 use Rattle.std.proofs.lemmas.Bool.{lt-ltb}
 use Rattle.std.proofs.lemmas.List.{length-append, length-set}
 use Rattle.std.specs.List.{AllByRecursion, slice_set}
@@ -227,3 +227,48 @@ module _ (c : Setting) (mesh_is : IsMesh (length c.mesh.points) (corner_lists c.
               follows = rw (val_is c.mesh (length frame.elements) value) (simulates_then {next = λ x. modify (state.with_element name x)} (extends_itself names) operand.1
                   (λ x y e. element_step names (with_accesses mid frame) name kind is fit' (omega (arith, within.elements, longer)) x y e.0 e.1));
             }
+
+  -- ASSIGNMENTS to a local number
+  local_matches : (names : Names) (frame : Frame) (name : List ℕ) (how : How) (slot : ℕ) → resolution_of names name ≡ Some (resolution.Number slot) → SlotsFit names frame → frame.numbers ≤ c.numbers
+      → (n : ℤ) (m : EvaluationState) (a : Activation) → Agrees c names m a → (local : Option ℤ) → local ≡ Some (get_or a.numbers slot (pos 0)) → (global : Option Binding)
+      → Matches c Same (Agrees c names) names m (assign_name name how n local global m).after (resolved.assign_local slot how n c.view a).after (resolved.assign_local slot how n c.view a).acts
+      (assign_name name how n local global m).answer (resolved.assign_local slot how n c.view a).answer
+  local_matches names frame name how slot here fit room n m a r (Some old) e global =
+      let same : old ≡ get_or a.numbers slot (pos 0) = cc e in
+      subst (λ old. Matches c Same (Agrees c names) names m (with_local_value name (assigned_value how old n) m) (resolved.with_number slot (assigned_value how (get_or a.numbers slot (pos 0)) n) a) []
+      (Ok (tt {0})) (Ok (tt {0}))) (sym same)
+      (tt, local_assigned c names frame name slot here fit (assigned_value how (get_or a.numbers slot (pos 0)) n) m a r room, assigned_nested names name (assigned_value how (get_or a.numbers slot (pos 0)) n) m, sym (append-nil m.acts))
+  local_matches names frame name how slot here fit room n m a r None e global = absurd cc
+
+  local_step : (names : Names) (frame : Frame) (name : List ℕ) (how : How) (slot : ℕ) → resolution_of names name ≡ Some (resolution.Number slot) → SlotsFit names frame → frame.numbers ≤ c.numbers → (n k : ℤ) → n ≡ k
+      → Statements names names (λ m. assign_name name how n (local_bound_to m name) (binding_of c.globals name) m) (resolved.assign_local slot how k)
+  local_step names frame name how slot here fit room n k e =
+      subst (λ k. Statements names names (λ m. assign_name name how n (local_bound_to m name) (binding_of c.globals name) m) (resolved.assign_local slot how k)) e record {
+        at = λ m a r. local_matches names frame name how slot here fit room n m a r (local_bound_to m name)
+            (subst (NameAgrees c a name (local_bound_to m name) (element_bound_to m name)) here (r.named name)) (binding_of c.globals name);
+      }
+
+  -- assignments to a scalar, which reduce it
+  reduces : How → Bool
+  reduces Set = false
+  reduces how = true
+
+  scalar_state : How → ℕ → ℤ → ℤ → EvaluationState → EvaluationState
+  scalar_state how scalar n old m = with_scalar_fold how scalar n (with_state (with_scalar_value scalar (assigned_value how old n) m.state) m)
+
+  other_than_reduced : (scalar other : ℕ) (mode : Mode) → known_mode c (OfScalar scalar) ≡ Some mode → mode ≢ Read → known_mode c (OfScalar other) ≡ Some Read → scalar ≢ other
+  other_than_reduced scalar other mode e not f same = not (some_mode mode Read (sym e ∙ ap (λ s. known_mode c (OfScalar s)) same ∙ f)) where
+    some_mode : (x y : Mode) → Some x ≡ Some y → x ≡ y
+    some_mode x y e = cc
+
+  reduced_agrees : (names : Names) (how : How) (scalar : ℕ) (n old : ℤ) (folded : ScalarFold) (m : EvaluationState) (a : Activation) → known_mode c (OfScalar scalar) ≡ Some (mode_by how) → mode_by how ≢ Read
+      → folded.scalar ≡ scalar → fold folded.op (get_or a.partials scalar (pos 0)) folded.value ≡ assigned_value how (get_or a.partials scalar (pos 0)) n → Agrees c names m a
+      → Agrees c names (record (with_state (with_scalar_value scalar (assigned_value how old n) m.state) m) { folds = m.folds ++ folded ∷ [] }) (resolved.with_partial scalar (assigned_value how (get_or a.partials scalar (pos 0)) n) a)
+  reduced_agrees names how scalar n old folded m a mode not is value r = record {
+    elem = r.elem; turns = r.turns; named = r.named; fields = r.fields;
+    scalars = λ other v known found. r.scalars other v known (sym (other_scalar scalar other (assigned_value how old n) m.state.scalars (other_than_reduced scalar other (mode_by how) mode not known)) ∙ found);
+    partials =
+        ap₂ (λ s v. slice_set a.partials s v) (sym is) (sym (ap (λ s. fold folded.op (get_or a.partials s (pos 0)) folded.value) is ∙ value))
+        ∙ ap (λ partials. partials_after_fold partials folded) r.partials ∙ sym (one_more_fold c.partials m.folds folded);
+    numbers_room = r.numbers_room; elements_room = r.elements_room;
+  }
