@@ -249,12 +249,9 @@ module _ (c : Setting) (mesh_is : IsMesh (length c.mesh.points) (corner_lists c.
       }
 
   -- assignments to a scalar, which reduce it
-  reduces : How → Bool
+  abbrev reduces : How → Bool
   reduces Set = false
   reduces how = true
-
-  scalar_state : How → ℕ → ℤ → ℤ → EvaluationState → EvaluationState
-  scalar_state how scalar n old m = with_scalar_fold how scalar n (with_state (with_scalar_value scalar (assigned_value how old n) m.state) m)
 
   other_than_reduced : (scalar other : ℕ) (mode : Mode) → known_mode c (OfScalar scalar) ≡ Some mode → mode ≢ Read → known_mode c (OfScalar other) ≡ Some Read → scalar ≢ other
   other_than_reduced scalar other mode e not f same = not (some_mode mode Read (sym e ∙ ap (λ s. known_mode c (OfScalar s)) same ∙ f)) where
@@ -272,3 +269,175 @@ module _ (c : Setting) (mesh_is : IsMesh (length c.mesh.points) (corner_lists c.
         ∙ ap (λ partials. partials_after_fold partials folded) r.partials ∙ sym (one_more_fold c.partials m.folds folded);
     numbers_room = r.numbers_room; elements_room = r.elements_room;
   }
+
+  not_read : (how : How) → mode_by how ≢ Read
+  not_read Set e = cc
+  not_read (Fold op) e = cc
+  not_read Less e = cc
+
+  reduced_nested : (names : Names) (m : EvaluationState) (scalar : ℕ) (value : ℤ) (folds : List ScalarFold) → IsNested names m (record (with_state (with_scalar_value scalar value m.state) m) { folds = folds })
+  reduced_nested names m scalar value folds = record { new_locals = []; locals = refl; locals_are_new = tt; new_elements = []; elements = refl; elements_are_new = tt }
+
+  scalar_matches : (names : Names) (how : How) (scalar : ℕ) → reduces how ≡ true → known_mode c (OfScalar scalar) ≡ Some (mode_by how)
+      → (n : ℤ) (m : EvaluationState) (a : Activation) → Agrees c names m a → (value : Option ℤ)
+      → Matches c Same (Agrees c names) names m (assign_scalar how n scalar value m).after (resolved.assign_scalar scalar how n c.view a).after (resolved.assign_scalar scalar how n c.view a).acts
+      (assign_scalar how n scalar value m).answer (resolved.assign_scalar scalar how n c.view a).answer
+  scalar_matches names Set scalar is mode n m a r value = absurd cc
+  scalar_matches names (Fold op) scalar is mode n m a r (Some old) = (
+    tt,
+    reduced_agrees names (Fold op) scalar n old (record { scalar = scalar; op = op; value = n }) m a mode (not_read (Fold op)) refl refl r,
+    reduced_nested names m scalar (assigned_value (Fold op) old n) (m.folds ++ record { scalar = scalar; op = op; value = n } ∷ []),
+    sym (append-nil m.acts),
+  )
+  scalar_matches names Less scalar is mode n m a r (Some old) = (
+    tt,
+    reduced_agrees names Less scalar n old (record { scalar = scalar; op = Add; value = operand Less n }) m a mode (not_read Less) refl refl r,
+    reduced_nested names m scalar (assigned_value Less old n) (m.folds ++ record { scalar = scalar; op = Add; value = operand Less n } ∷ []),
+    sym (append-nil m.acts),
+  )
+  scalar_matches names (Fold op) scalar is mode n m a r None = tt
+  scalar_matches names Less scalar is mode n m a r None = tt
+
+  named_scalar : (names : Names) (name : List ℕ) (how : How) (scalar : ℕ) → reduces how ≡ true → known_mode c (OfScalar scalar) ≡ Some (mode_by how)
+      → (n : ℤ) (m : EvaluationState) (a : Activation) → Agrees c names m a → (local : Option ℤ) → local ≡ None → (global : Option Binding) → global ≡ Some (ScalarName scalar)
+      → Matches c Same (Agrees c names) names m (assign_name name how n local global m).after (resolved.assign_scalar scalar how n c.view a).after (resolved.assign_scalar scalar how n c.view a).acts
+      (assign_name name how n local global m).answer (resolved.assign_scalar scalar how n c.view a).answer
+  named_scalar names name how scalar is mode n m a r None e (Some (ScalarName other)) f =
+      let same : other ≡ scalar = cc f in
+      subst (λ s. Matches c Same (Agrees c names) names m (assign_scalar how n s (scalar_value m.state s) m).after (resolved.assign_scalar scalar how n c.view a).after (resolved.assign_scalar scalar how n c.view a).acts
+      (assign_scalar how n s (scalar_value m.state s) m).answer (resolved.assign_scalar scalar how n c.view a).answer) (sym same) (scalar_matches names how scalar is mode n m a r (scalar_value m.state scalar))
+  named_scalar names name how scalar is mode n m a r (Some old) e global f = absurd cc
+  named_scalar names name how scalar is mode n m a r None e None f = absurd cc
+  named_scalar names name how scalar is mode n m a r None e (Some _) f = absurd cc
+
+  scalar_step : (names : Names) (name : List ℕ) (how : How) (scalar : ℕ) → resolution_of names name ≡ Some (resolution.Scalar scalar) → reduces how ≡ true → known_mode c (OfScalar scalar) ≡ Some (mode_by how)
+      → (n k : ℤ) → n ≡ k → Statements names names (λ m. assign_name name how n (local_bound_to m name) (binding_of c.globals name) m) (resolved.assign_scalar scalar how k)
+  scalar_step names name how scalar here is mode n k e =
+      subst (λ k. Statements names names (λ m. assign_name name how n (local_bound_to m name) (binding_of c.globals name) m) (resolved.assign_scalar scalar how k)) e record {
+        at = λ m a r.
+            let h : (local_bound_to m name ≡ None) × (element_bound_to m name ≡ None) × (binding_of c.globals name ≡ Some (ScalarName scalar)) =
+                subst (NameAgrees c a name (local_bound_to m name) (element_bound_to m name)) here (r.named name) in
+            named_scalar names name how scalar is mode n m a r (local_bound_to m name) h.0 (binding_of c.globals name) h.2;
+      }
+
+  -- assignments to a field
+  other_than_written : (field other : ℕ) (mode : Mode) → known_mode c (OfField field) ≡ Some mode → mode ≢ Read → known_mode c (OfField other) ≡ Some Read → field ≢ other
+  other_than_written field other mode e not f same = not (some_mode mode Read (sym e ∙ ap (λ s. known_mode c (OfField s)) same ∙ f)) where
+    some_mode : (x y : Mode) → Some x ≡ Some y → x ≡ y
+    some_mode x y e = cc
+
+  written_agrees : (names : Names) (spot : Spot) (how : How) (n old : ℤ) (m : EvaluationState) (a : Activation) → known_mode c (OfField spot.field) ≡ Some (mode_by how) → Agrees c names m a
+      → Agrees c names (with_act (record { spot = spot; mode = mode_by how; value = operand how n }) (with_state (with_fields (with_value spot (assigned_value how old n) m.state.fields) m.state) m)) a
+  written_agrees names spot how n old m a mode r = record {
+    elem = r.elem; turns = r.turns; named = r.named;
+    fields = λ other value known declared found.
+        r.fields other value known declared (sym (other_field spot other (assigned_value how old n) m.state.fields (other_than_written spot.field other.field (mode_by how) mode (not_read how) known)) ∙ found);
+    scalars = r.scalars; partials = r.partials; numbers_room = r.numbers_room; elements_room = r.elements_room;
+  }
+
+  written_nested : (names : Names) (m : EvaluationState) (act : Act) (fields : _) → IsNested names m (with_act act (with_state (with_fields fields m.state) m))
+  written_nested names m act fields = record { new_locals = []; locals = refl; locals_are_new = tt; new_elements = []; elements = refl; elements_are_new = tt }
+
+  spot_matches : (names : Names) (spot : Spot) (how : How) (n : ℤ) (m : EvaluationState) (a : Activation) → known_mode c (OfField spot.field) ≡ Some (mode_by how) → Agrees c names m a → (value : Option ℤ)
+      → Matches c Same (Agrees c names) names m (assign_spot spot how n value m).after a (record { spot = spot; mode = mode_by how; value = operand how n } ∷ []) (assign_spot spot how n value m).answer (Ok (tt {0}))
+  spot_matches names spot how n m a mode r (Some old) = (
+    tt, written_agrees names spot how n old m a mode r,
+    written_nested names m (record { spot = spot; mode = mode_by how; value = operand how n }) (with_value spot (assigned_value how old n) m.state.fields), refl,
+  )
+  spot_matches names spot how n m a mode r None = tt
+
+  field_step : (names : Names) (place : Place) (name : List ℕ) (how : How) (field : ℕ) (kind : Kind) → resolution_of names name ≡ Some (resolution.Field field kind) → known_mode c (OfField field) ≡ Some (mode_by how)
+      → (n k : ℤ) → n ≡ k → (x y : Option Elem) → x ≡ y → Statements names names (assign_field place how (binding_of c.globals name) n x) (resolved.assign_field place field how k y)
+  field_step names place name how field kind here mode n k e x y f =
+      subst (λ k. Statements names names (assign_field place how (binding_of c.globals name) n x) (resolved.assign_field place field how k y)) e
+      (subst (λ y. Statements names names (assign_field place how (binding_of c.globals name) n x) (resolved.assign_field place field how n y)) f (simulates_given c names (λ m a r.
+      let global : binding_of c.globals name ≡ Some (FieldName field kind) = subst (NameAgrees c a name (local_bound_to m name) (element_bound_to m name)) here (r.named name) in
+      subst (λ global. Statements names names (assign_field place how global n x) (resolved.assign_field place field how n x)) (sym global) (at x)))) where
+        at : (x : Option Elem) → Statements names names (assign_field place how (Some (FieldName field kind)) n x) (resolved.assign_field place field how n x)
+        at None = simulates_trap NilElement place
+        at (Some x) = record { at = λ m a r. spot_matches names (spot_of field x) how n m a mode r (value_in m.state.fields (spot_of field x)) }
+
+  -- THE CODE OF ASSIGNMENTS
+  with_fit : {names : Names} {frame : Frame} (accesses : Accesses) → SlotsFit names frame → SlotsFit names (with_accesses accesses frame)
+  with_fit accesses fit = record { numbers = fit.numbers; elements = fit.elements; apart = fit.apart }
+
+  abbrev Assigned : Type 0
+  Assigned = StatementCode × Frame
+
+  abbrev IsAssignment : Names → Frame → Statement → Assigned → Type 0
+  IsAssignment names frame s r = SlotsFit names frame → IsWithinFrame c r.1 → StatementFollows names frame s r.0 names r.1
+
+  abbrev with_names : Names → Assigned → Result Made ProgramFault
+  with_names names assignment = Ok (assignment.0, names, assignment.1)
+
+  assignment_code : (names : Names) (frame : Frame) (s : Statement) (r : Result Assigned ProgramFault) → IfOk (IsAssignment names frame s) r → IfOk (IsStatementCode names frame s) (in_sequence r (with_names names))
+  assignment_code names frame s (Ok r) h = h
+  assignment_code names frame s (Err fault) h = tt
+
+  name_follows : (names : Names) (frame : Frame) (place : Place) (name : List ℕ) (how : How) (value : Expression) (made : StatementCode) (later : Accesses) → Within c frame.accesses → SlotsFit names frame
+      → Statements names names (statement_meaning c.mesh c.globals (Assign place name None how value)) (resolved.statement_execution c.mesh made)
+      → StatementFollows names frame (Assign place name None how value) made names (with_accesses later frame)
+  name_follows names frame place name how value made later w fit f = record {
+    accesses = w; grows = record { numbers = omega arith; elements = omega arith }; extends = extends_itself names; fit = with_fit later fit; follows = f;
+  }
+
+  abbrev scalar_made : Frame → ℕ → How → NumberCode × Accesses → Result Assigned ProgramFault
+  scalar_made frame scalar how operand = Ok (statement_code.Scalar scalar how operand.0, with_accesses operand.1 frame)
+
+  scalar_assignment_code : (names : Names) (frame : Frame) (place : Place) (name : List ℕ) (how : How) (value : Expression) (scalar : ℕ) → resolution_of names name ≡ Some (resolution.Scalar scalar)
+      → (later : Accesses) → reduces how ≡ true → (Within c later → Within c frame.accesses × (known_mode c (OfScalar scalar) ≡ Some (mode_by how)))
+      → IfOk (IsAssignment names frame (Assign place name None how value)) (in_sequence (resolved_number names later value) (scalar_made frame scalar how))
+  scalar_assignment_code names frame place name how value scalar here later is known =
+      ok_then (IsNumberCode names later value) (IsAssignment names frame (Assign place name None how value)) (resolved_number names later value) (scalar_made frame scalar how) (number_code names later value)
+      (λ operand h fit within.
+      let operand_is = h within.accesses in
+      let mode = known operand_is.0 in
+      name_follows names frame place name how value (statement_code.Scalar scalar how operand.0) operand.1 mode.0 fit
+      (rw (assign_scalar_is c.mesh scalar how operand.0) (simulates_then {next = λ n m. assign_name name how n (local_bound_to m name) (binding_of c.globals name) m} (extends_itself names) operand_is.1
+      (λ n k e. scalar_step names name how scalar here is mode.1 n k e))))
+
+  abbrev local_made : Frame → ℕ → How → NumberCode × Accesses → Result Assigned ProgramFault
+  local_made frame slot how operand = Ok (statement_code.Local slot how operand.0, with_accesses operand.1 frame)
+
+  name_assignment_code : (names : Names) (frame : Frame) (place : Place) (name : List ℕ) (how : How) (value : Expression) (found : Option Resolution) → resolution_of names name ≡ found
+      → IfOk (IsAssignment names frame (Assign place name None how value)) (resolved_assignment names frame place how value found)
+  name_assignment_code names frame place name how value None here = tt
+  name_assignment_code names frame place name how value (Some (resolution.Field field kind)) here = tt
+  name_assignment_code names frame place name how value (Some (resolution.Element slot kind)) here = tt
+  name_assignment_code names frame place name how value (Some (resolution.Number slot)) here =
+      ok_then (IsNumberCode names frame.accesses value) (IsAssignment names frame (Assign place name None how value)) (resolved_number names frame.accesses value) (local_made frame slot how)
+      (number_code names frame.accesses value) (λ operand h fit within.
+      let operand_is = h within.accesses in
+      name_follows names frame place name how value (statement_code.Local slot how operand.0) operand.1 operand_is.0 fit
+      (rw (assign_local_is c.mesh slot how operand.0) (simulates_then {next = λ n m. assign_name name how n (local_bound_to m name) (binding_of c.globals name) m} (extends_itself names) operand_is.1
+      (λ n k e. local_step names frame name how slot here fit within.numbers n k e))))
+  name_assignment_code names frame place name Set value (Some (resolution.Scalar scalar)) here = tt
+  name_assignment_code names frame place name (Fold op) value (Some (resolution.Scalar scalar)) here =
+      ok_then (λ later. Within c later → Within c frame.accesses × (known_mode c (OfScalar scalar) ≡ Some (mode_by (Fold op)))) (IsAssignment names frame (Assign place name None (Fold op) value))
+      (with_access frame.accesses (OfScalar scalar) (mode_by (Fold op)) place) (λ later. in_sequence (resolved_number names later value) (scalar_made frame scalar (Fold op)))
+      (access_known c frame.accesses (OfScalar scalar) (mode_by (Fold op)) place) (λ later k. scalar_assignment_code names frame place name (Fold op) value scalar here later refl k)
+  name_assignment_code names frame place name Less value (Some (resolution.Scalar scalar)) here =
+      ok_then (λ later. Within c later → Within c frame.accesses × (known_mode c (OfScalar scalar) ≡ Some (mode_by Less))) (IsAssignment names frame (Assign place name None Less value))
+      (with_access frame.accesses (OfScalar scalar) (mode_by Less) place) (λ later. in_sequence (resolved_number names later value) (scalar_made frame scalar Less))
+      (access_known c frame.accesses (OfScalar scalar) (mode_by Less) place) (λ later k. scalar_assignment_code names frame place name Less value scalar here later refl k)
+
+  -- to a field at an element
+  abbrev field_made : Frame → Place → ℕ → How → ElementCode → NumberCode × Accesses → Result Assigned ProgramFault
+  field_made frame place field how target new_value = Ok (statement_code.Field place field how target new_value.0, with_accesses new_value.1 frame)
+
+  field_value_code : (names : Names) (frame : Frame) (place : Place) (name : List ℕ) (target : Expression) (how : How) (value : Expression) (field : ℕ) (kind : Kind) (x : ElementCode) (later : Accesses)
+      → resolution_of names name ≡ Some (resolution.Field field kind)
+      → (Within c later → Within c frame.accesses × (known_mode c (OfField field) ≡ Some (mode_by how)) × ElementSimulates names kind target x)
+      → IfOk (IsAssignment names frame (Assign place name (Some target) how value)) (in_sequence (resolved_number names later value) (field_made frame place field how x))
+  field_value_code names frame place name target how value field kind x later here known =
+      ok_then (IsNumberCode names later value) (IsAssignment names frame (Assign place name (Some target) how value)) (resolved_number names later value) (field_made frame place field how x) (number_code names later value)
+      (λ operand h fit within.
+      let operand_is = h within.accesses in
+      let target_is = known operand_is.0 in
+      record {
+        accesses = target_is.0; grows = record { numbers = omega arith; elements = omega arith }; extends = extends_itself names; fit = with_fit operand.1 fit;
+        follows = rw (assign_field_is c.mesh place field how x operand.0)
+            (simulates_then {next = λ n. and_then (element_in c.mesh c.globals target) (λ y. assign_field place how (binding_of c.globals name) n y)} (extends_itself names) operand_is.1 (λ n k e.
+            simulates_then {next = λ y. assign_field place how (binding_of c.globals name) n y} (extends_itself names) target_is.2
+            (λ y z f. field_step names place name how field kind here target_is.1 n k e y z f.0)));
+      })
