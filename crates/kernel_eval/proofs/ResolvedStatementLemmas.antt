@@ -130,23 +130,21 @@ module _ (c : Setting) (mesh_is : IsMesh (length c.mesh.points) (corner_lists c.
   -- THE CODE OF A STATEMENT, with the names and the frame after it
   pub record StatementFollows (names : Names) (frame : Frame) (s : Statement) (made : StatementCode) (later : Names) (after : Frame) : Type 0 where
     pub accesses : Within c frame.accesses
-    pub grows : Grows frame after
     pub extends : Extends names later
     pub fit : SlotsFit later after
     pub follows : Statements names later (statement_meaning c.mesh c.globals s) (resolved.statement_execution c.mesh made)
 
   abbrev pub IsStatementCode : Names → Frame → Statement → StatementCode × Names × Frame → Type 0
-  IsStatementCode names frame s r = SlotsFit names frame → IsWithinFrame c r.2 → StatementFollows names frame s r.0 r.1 r.2
+  IsStatementCode names frame s r = Grows frame r.2 × (SlotsFit names frame → IsWithinFrame c r.2 → StatementFollows names frame s r.0 r.1 r.2)
 
   pub record BodyFollows (names : Names) (frame : Frame) (done : List StatementCode) (body : Body) (codes : List StatementCode) (after : Frame) : Type 0 where
     pub accesses : Within c frame.accesses
-    pub grows : Grows frame after
     pub new : List StatementCode
     pub is : codes ≡ done ++ new
     pub follows : Simulates c Same (Agrees c names) (AgreesWithMore c names) names (body_meaning c.mesh c.globals body) (resolved.body_execution c.mesh new)
 
   abbrev pub IsBodyCode : Names → Frame → List StatementCode → Body → List StatementCode × Frame → Type 0
-  IsBodyCode names frame done body r = SlotsFit names frame → IsWithinFrame c r.1 → BodyFollows names frame done body r.0 r.1
+  IsBodyCode names frame done body r = Grows frame r.1 × (SlotsFit names frame → IsWithinFrame c r.1 → BodyFollows names frame done body r.0 r.1)
 
   -- DECLARATIONS
   number_step : (names : Names) (frame : Frame) (name : List ℕ) → resolution_of names name ≡ None → SlotsFit names frame → frame.numbers < c.numbers → (n k : ℤ) → n ≡ k
@@ -194,17 +192,16 @@ module _ (c : Setting) (mesh_is : IsMesh (length c.mesh.points) (corner_lists c.
             → IfOk (IsStatementCode names frame (Var place name at init))
             (in_sequence (number_declared_by names (with_accesses mid frame) name at found) (var_made value))
         by value mid (Some other) is h = tt
-        by value mid None is h = λ fit within.
+        by value mid None is h = (record { numbers = omega arith; elements = omega arith }, λ fit within.
             let fit' : SlotsFit names (with_accesses mid frame) = record { numbers = fit.numbers; elements = fit.elements; apart = fit.apart } in
             let operand = h within.accesses in
             record {
               accesses = operand.0;
-              grows = record { numbers = omega arith; elements = omega arith };
               extends = extends_by_one names (number_name name (with_accesses mid frame));
               fit = number_fits names (with_accesses mid frame) name is fit' (with_number (with_accesses mid frame)) refl refl;
               follows = rw (var_is c.mesh frame.numbers value) (simulates_then {next = λ n. modify (with_local name n)} (extends_itself names) operand.1
                   (λ n k e. number_step names (with_accesses mid frame) name is fit' (omega (arith, within.numbers)) n k e));
-            }
+            })
 
   val_code : (names : Names) (frame : Frame) (place : Place) (name : List ℕ) (at : Place) (init : Expression) → IfOk (IsStatementCode names frame (Val place name at init)) (resolved_val names frame name at init)
   val_code names frame place name at init =
@@ -215,18 +212,17 @@ module _ (c : Setting) (mesh_is : IsMesh (length c.mesh.points) (corner_lists c.
             → IfOk (IsStatementCode names frame (Val place name at init))
             (in_sequence (element_declared_by names (with_accesses mid frame) name at kind found) (val_made value))
         by kind value mid (Some other) is h = tt
-        by kind value mid None is h = λ fit within.
+        by kind value mid None is h = (record { numbers = omega arith; elements = omega (arith, length-append frame.elements (kind ∷ [])) }, λ fit within.
             let fit' : SlotsFit names (with_accesses mid frame) = record { numbers = fit.numbers; elements = fit.elements; apart = fit.apart } in
             let operand = h within.accesses in
             let longer : length (frame.elements ++ kind ∷ []) ≡ length frame.elements + 1 = length-append frame.elements (kind ∷ []) in
             record {
               accesses = operand.0;
-              grows = record { numbers = omega arith; elements = omega (arith, longer) };
               extends = extends_by_one names (element_name name kind (with_accesses mid frame));
               fit = element_fits names (with_accesses mid frame) name kind is fit' (with_element kind (with_accesses mid frame)) refl refl;
               follows = rw (val_is c.mesh (length frame.elements) value) (simulates_then {next = λ x. modify (state.with_element name x)} (extends_itself names) operand.1
                   (λ x y e. element_step names (with_accesses mid frame) name kind is fit' (omega (arith, within.elements, longer)) x y e.0 e.1));
-            }
+            })
 
   -- ASSIGNMENTS to a local number
   local_matches : (names : Names) (frame : Frame) (name : List ℕ) (how : How) (slot : ℕ) → resolution_of names name ≡ Some (resolution.Number slot) → SlotsFit names frame → frame.numbers ≤ c.numbers
@@ -365,7 +361,7 @@ module _ (c : Setting) (mesh_is : IsMesh (length c.mesh.points) (corner_lists c.
   Assigned = StatementCode × Frame
 
   abbrev IsAssignment : Names → Frame → Statement → Assigned → Type 0
-  IsAssignment names frame s r = SlotsFit names frame → IsWithinFrame c r.1 → StatementFollows names frame s r.0 names r.1
+  IsAssignment names frame s r = Grows frame r.1 × (SlotsFit names frame → IsWithinFrame c r.1 → StatementFollows names frame s r.0 names r.1)
 
   abbrev with_names : Names → Assigned → Result Made ProgramFault
   with_names names assignment = Ok (assignment.0, names, assignment.1)
@@ -378,7 +374,7 @@ module _ (c : Setting) (mesh_is : IsMesh (length c.mesh.points) (corner_lists c.
       → Statements names names (statement_meaning c.mesh c.globals (Assign place name None how value)) (resolved.statement_execution c.mesh made)
       → StatementFollows names frame (Assign place name None how value) made names (with_accesses later frame)
   name_follows names frame place name how value made later w fit f = record {
-    accesses = w; grows = record { numbers = omega arith; elements = omega arith }; extends = extends_itself names; fit = with_fit later fit; follows = f;
+    accesses = w; extends = extends_itself names; fit = with_fit later fit; follows = f;
   }
 
   abbrev scalar_made : Frame → ℕ → How → NumberCode × Accesses → Result Assigned ProgramFault
@@ -389,12 +385,12 @@ module _ (c : Setting) (mesh_is : IsMesh (length c.mesh.points) (corner_lists c.
       → IfOk (IsAssignment names frame (Assign place name None how value)) (in_sequence (resolved_number names later value) (scalar_made frame scalar how))
   scalar_assignment_code names frame place name how value scalar here later is known =
       ok_then (IsNumberCode names later value) (IsAssignment names frame (Assign place name None how value)) (resolved_number names later value) (scalar_made frame scalar how) (number_code names later value)
-      (λ operand h fit within.
+      (λ operand h. (record { numbers = omega arith; elements = omega arith }, λ fit within.
       let operand_is = h within.accesses in
       let mode = known operand_is.0 in
       name_follows names frame place name how value (statement_code.Scalar scalar how operand.0) operand.1 mode.0 fit
       (rw (assign_scalar_is c.mesh scalar how operand.0) (simulates_then {next = λ n m. assign_name name how n (local_bound_to m name) (binding_of c.globals name) m} (extends_itself names) operand_is.1
-      (λ n k e. scalar_step names name how scalar here is mode.1 n k e))))
+      (λ n k e. scalar_step names name how scalar here is mode.1 n k e)))))
 
   abbrev local_made : Frame → ℕ → How → NumberCode × Accesses → Result Assigned ProgramFault
   local_made frame slot how operand = Ok (statement_code.Local slot how operand.0, with_accesses operand.1 frame)
@@ -406,11 +402,11 @@ module _ (c : Setting) (mesh_is : IsMesh (length c.mesh.points) (corner_lists c.
   name_assignment_code names frame place name how value (Some (resolution.Element slot kind)) here = tt
   name_assignment_code names frame place name how value (Some (resolution.Number slot)) here =
       ok_then (IsNumberCode names frame.accesses value) (IsAssignment names frame (Assign place name None how value)) (resolved_number names frame.accesses value) (local_made frame slot how)
-      (number_code names frame.accesses value) (λ operand h fit within.
+      (number_code names frame.accesses value) (λ operand h. (record { numbers = omega arith; elements = omega arith }, λ fit within.
       let operand_is = h within.accesses in
       name_follows names frame place name how value (statement_code.Local slot how operand.0) operand.1 operand_is.0 fit
       (rw (assign_local_is c.mesh slot how operand.0) (simulates_then {next = λ n m. assign_name name how n (local_bound_to m name) (binding_of c.globals name) m} (extends_itself names) operand_is.1
-      (λ n k e. local_step names frame name how slot here fit within.numbers n k e))))
+      (λ n k e. local_step names frame name how slot here fit within.numbers n k e)))))
   name_assignment_code names frame place name Set value (Some (resolution.Scalar scalar)) here = tt
   name_assignment_code names frame place name (Fold op) value (Some (resolution.Scalar scalar)) here =
       ok_then (λ later. Within c later → Within c frame.accesses × (known_mode c (OfScalar scalar) ≡ Some (mode_by (Fold op)))) (IsAssignment names frame (Assign place name None (Fold op) value))
@@ -425,19 +421,101 @@ module _ (c : Setting) (mesh_is : IsMesh (length c.mesh.points) (corner_lists c.
   abbrev field_made : Frame → Place → ℕ → How → ElementCode → NumberCode × Accesses → Result Assigned ProgramFault
   field_made frame place field how target new_value = Ok (statement_code.Field place field how target new_value.0, with_accesses new_value.1 frame)
 
-  field_value_code : (names : Names) (frame : Frame) (place : Place) (name : List ℕ) (target : Expression) (how : How) (value : Expression) (field : ℕ) (kind : Kind) (x : ElementCode) (later : Accesses)
+  field_value_code : (names : Names) (frame : Frame) (place : Place) (name : List ℕ) (target : Expression) (how : How) (value : Expression) (field : ℕ) (kind other : Kind) (x : ElementCode) (later : Accesses)
       → resolution_of names name ≡ Some (resolution.Field field kind)
-      → (Within c later → Within c frame.accesses × (known_mode c (OfField field) ≡ Some (mode_by how)) × ElementSimulates names kind target x)
+      → (Within c later → Within c frame.accesses × (known_mode c (OfField field) ≡ Some (mode_by how)) × ElementSimulates names other target x)
       → IfOk (IsAssignment names frame (Assign place name (Some target) how value)) (in_sequence (resolved_number names later value) (field_made frame place field how x))
-  field_value_code names frame place name target how value field kind x later here known =
+  field_value_code names frame place name target how value field kind other x later here known =
       ok_then (IsNumberCode names later value) (IsAssignment names frame (Assign place name (Some target) how value)) (resolved_number names later value) (field_made frame place field how x) (number_code names later value)
-      (λ operand h fit within.
+      (λ operand h. (record { numbers = omega arith; elements = omega arith }, λ fit within.
       let operand_is = h within.accesses in
       let target_is = known operand_is.0 in
       record {
-        accesses = target_is.0; grows = record { numbers = omega arith; elements = omega arith }; extends = extends_itself names; fit = with_fit operand.1 fit;
+        accesses = target_is.0; extends = extends_itself names; fit = with_fit operand.1 fit;
         follows = rw (assign_field_is c.mesh place field how x operand.0)
             (simulates_then {next = λ n. and_then (element_in c.mesh c.globals target) (λ y. assign_field place how (binding_of c.globals name) n y)} (extends_itself names) operand_is.1 (λ n k e.
             simulates_then {next = λ y. assign_field place how (binding_of c.globals name) n y} (extends_itself names) target_is.2
             (λ y z f. field_step names place name how field kind here target_is.1 n k e y z f.0)));
-      })
+      }))
+
+  abbrev field_access : Names → Frame → Place → ℕ → How → Expression → Accesses → ElementCode → Result Assigned ProgramFault
+  field_access names frame place field how value mid x =
+      in_sequence (with_access mid (OfField field) (mode_by how) place) (λ later. in_sequence (resolved_number names later value) (field_made frame place field how x))
+
+  field_target_code : (names : Names) (frame : Frame) (place : Place) (name : List ℕ) (target : Expression) (how : How) (value : Expression) (field : ℕ) (kind : Kind)
+      → resolution_of names name ≡ Some (resolution.Field field kind) → (operand : TypedCode) (mid : Accesses) → IsCode c names target frame.accesses (operand, mid)
+      → IfOk (IsAssignment names frame (Assign place name (Some target) how value)) (in_sequence (element_of_kind kind place operand) (field_access names frame place field how value mid))
+  field_target_code names frame place name target how value field kind here (typed.Element other x) mid h = go (is_kind kind other) where
+    go : (b : Bool) → IfOk (IsAssignment names frame (Assign place name (Some target) how value))
+        (in_sequence (if b then Ok x else fails TypeMismatch place) (field_access names frame place field how value mid))
+    go false = tt
+    go true =
+        ok_then (λ later. Within c later → Within c mid × (known_mode c (OfField field) ≡ Some (mode_by how))) (IsAssignment names frame (Assign place name (Some target) how value))
+        (with_access mid (OfField field) (mode_by how) place) (λ later. in_sequence (resolved_number names later value) (field_made frame place field how x))
+        (access_known c mid (OfField field) (mode_by how) place) (λ later k.
+        field_value_code names frame place name target how value field kind other x later here (λ w. ((h (k w).0).0, (k w).1, element_alone c names (h (k w).0).1)))
+  field_target_code names frame place name target how value field kind here _ mid h = tt
+
+  abbrev field_parts : Names → Frame → Place → How → Expression → Expression → ℕ × Kind → Result Assigned ProgramFault
+  field_parts names frame place how target value field =
+      in_sequence (resolved_expression names frame.accesses target) (λ operand. in_sequence (element_of_kind field.1 place operand.0) (field_access names frame place field.0 how value operand.1))
+
+  field_assignment_code : (names : Names) (frame : Frame) (place : Place) (name : List ℕ) (target : Expression) (how : How) (value : Expression) (found : Option Resolution) → resolution_of names name ≡ found
+      → IfOk (IsAssignment names frame (Assign place name (Some target) how value)) (resolved_field_assignment names frame place how target value found)
+  field_assignment_code names frame place name target how value (Some (resolution.Field field kind)) here = go (is_built_in field) where
+    go : (b : Bool) → IfOk (IsAssignment names frame (Assign place name (Some target) how value))
+        (in_sequence (if b then fails BuiltinWrite place else Ok (field, kind)) (field_parts names frame place how target value))
+    go true = tt
+    go false =
+        ok_then (IsCode c names target frame.accesses) (IsAssignment names frame (Assign place name (Some target) how value)) (resolved_expression names frame.accesses target)
+        (λ operand. in_sequence (element_of_kind kind place operand.0) (field_access names frame place field how value operand.1)) (expression_code c names frame.accesses target)
+        (λ operand h. field_target_code names frame place name target how value field kind here operand.0 operand.1 h)
+  field_assignment_code names frame place name target how value None here = tt
+  field_assignment_code names frame place name target how value (Some (resolution.Scalar scalar)) here = tt
+  field_assignment_code names frame place name target how value (Some (resolution.Number slot)) here = tt
+  field_assignment_code names frame place name target how value (Some (resolution.Element slot kind)) here = tt
+
+  -- CONDITIONS AND LOOPS, by the code of their blocks
+  abbrev Block : Type 0
+  Block = List StatementCode × Frame
+
+  within_earlier : {frame later : Frame} → Within c frame.accesses → Grows frame later → IsWithinFrame c later → IsWithinFrame c frame
+  within_earlier w g h = record { accesses = w; numbers = omega (arith, g.numbers, h.numbers); elements = omega (arith, g.elements, h.elements) }
+
+  block_follows : (names : Names) (frame : Frame) (body : Body) (codes : List StatementCode) (after : Frame) → BodyFollows names frame [] body codes after
+      → Statements names names (in_block (body_meaning c.mesh c.globals body)) (resolved.body_execution c.mesh codes)
+  block_follows names frame body codes after h =
+      subst (λ codes. Statements names names (in_block (body_meaning c.mesh c.globals body)) (resolved.body_execution c.mesh codes)) (sym h.is) (simulates_block h.follows)
+
+  if_follows : (names : Names) (frame : Frame) (place : Place) (test : Expression) (first second : Body) (has_else : Bool) (x : TruthCode) (mid : Accesses) (one two : Block)
+      → IsTruthCode names frame.accesses test (x, mid) → IsBodyCode names (with_accesses mid frame) [] first one → IsBodyCode names one.1 [] second two
+      → IsStatementCode names frame (If place test first second has_else) (statement_code.If x one.0 two.0, names, two.1)
+  if_follows names frame place test first second has_else x mid one two h f g = (
+    grows_then (record { numbers = f.0.numbers; elements = f.0.elements }) g.0,
+    λ fit within.
+        let fit_one = still_fit f.0 (with_fit mid fit) in
+        let second_is = g.1 fit_one within in
+        let first_is = f.1 (with_fit mid fit) (within_earlier second_is.accesses g.0 within) in
+        let test_is = h first_is.accesses in
+        record {
+          accesses = test_is.0; extends = extends_itself names; fit = still_fit g.0 fit_one;
+          follows = rw (if_is c.mesh x one.0 two.0) (simulates_then {next = λ b. if_then_else b (in_block (body_meaning c.mesh c.globals first)) (in_block (body_meaning c.mesh c.globals second))} (extends_itself names) test_is.1
+              (λ b d e. subst (λ d. Statements names names (if_then_else b (in_block (body_meaning c.mesh c.globals first)) (in_block (body_meaning c.mesh c.globals second)))
+              (code.if_then_else d (resolved.body_execution c.mesh one.0) (resolved.body_execution c.mesh two.0))) e
+              (simulates_if b (block_follows names (with_accesses mid frame) first one.0 one.1 first_is) (block_follows names one.1 second two.0 two.1 second_is))));
+        },
+  )
+
+  while_follows : (names : Names) (frame : Frame) (place : Place) (test : Expression) (body : Body) (x : TruthCode) (mid : Accesses) (block : Block)
+      → IsTruthCode names frame.accesses test (x, mid) → IsBodyCode names (with_accesses mid frame) [] body block
+      → IsStatementCode names frame (While place test body) (statement_code.While place x block.0, names, block.1)
+  while_follows names frame place test body x mid block h f = (
+    record { numbers = f.0.numbers; elements = f.0.elements },
+    λ fit within.
+        let body_is = f.1 (with_fit mid fit) within in
+        let test_is = h body_is.accesses in
+        record {
+          accesses = test_is.0; extends = extends_itself names; fit = still_fit f.0 (with_fit mid fit);
+          follows = rw (while_is c.mesh place x block.0) (simulates_loop place Spent test_is.1 (block_follows names (with_accesses mid frame) body block.0 block.1 body_is));
+        },
+  )
