@@ -44,6 +44,7 @@ use Rattle.code_eval.specs.declared.activation.Activation.{Activation}
 use Rattle.code_eval.specs.Executions.{Execution, ◌>>=◌}
 use Rattle.code_eval.specs.Meaning as resolved
 use Rattle.code_eval.proofs.LayerLemmas.{var_is, val_is, assign_local_is, assign_scalar_is, assign_field_is, if_is, while_is, for_is}
+use Rattle.code_eval.specs.Stops.{Stop, Trapped, NoMeaning}
 use Rattle.kernel_eval.specs.Iterations.{partials_after, partials_after_fold}
 use Rattle.kernel_eval.specs.Meaning.{spot_of, operand, assigned_value, assign_spot, assign_field, with_scalar_fold, assign_scalar, assign_global, assign_name, in_block, for_each_member, meaning, number_in, truth_in, element_in, statement_meaning, body_meaning, trap}
 use Rattle.kernel_eval.specs.Outcomes.{Computation, and_then, modify, if_then_else, skip, for_each}
@@ -131,11 +132,11 @@ module _ (c : Setting) (mesh_is : IsMesh (length c.mesh.points) (corner_lists c.
   pub record StatementFollows (names : Names) (frame : Frame) (s : Statement) (made : StatementCode) (later : Names) (after : Frame) : Type 0 where
     pub accesses : Within c frame.accesses
     pub extends : Extends names later
-    pub fit : SlotsFit later after
     pub follows : Statements names later (statement_meaning c.mesh c.globals s) (resolved.statement_execution c.mesh made)
 
   abbrev pub IsStatementCode : Names → Frame → Statement → StatementCode × Names × Frame → Type 0
-  IsStatementCode names frame s r = Grows frame r.2 × (SlotsFit names frame → IsWithinFrame c r.2 → StatementFollows names frame s r.0 r.1 r.2)
+  IsStatementCode names frame s r =
+      Grows frame r.2 × (SlotsFit names frame → SlotsFit r.1 r.2) × (SlotsFit names frame → IsWithinFrame c r.2 → StatementFollows names frame s r.0 r.1 r.2)
 
   pub record BodyFollows (names : Names) (frame : Frame) (done : List StatementCode) (body : Body) (codes : List StatementCode) (after : Frame) : Type 0 where
     pub accesses : Within c frame.accesses
@@ -147,6 +148,9 @@ module _ (c : Setting) (mesh_is : IsMesh (length c.mesh.points) (corner_lists c.
   IsBodyCode names frame done body r = Grows frame r.1 × (SlotsFit names frame → IsWithinFrame c r.1 → BodyFollows names frame done body r.0 r.1)
 
   -- DECLARATIONS
+  with_fit : {names : Names} {frame : Frame} (accesses : Accesses) → SlotsFit names frame → SlotsFit names (with_accesses accesses frame)
+  with_fit accesses fit = record { numbers = fit.numbers; elements = fit.elements; apart = fit.apart }
+
   number_step : (names : Names) (frame : Frame) (name : List ℕ) → resolution_of names name ≡ None → SlotsFit names frame → frame.numbers < c.numbers → (n k : ℤ) → n ≡ k
       → Statements names (names ++ number_name name frame ∷ []) (modify (with_local name n)) (code.modify (resolved.with_number frame.numbers k))
   number_step names frame name new fit room n k e = subst (λ k. Statements names (names ++ number_name name frame ∷ []) (modify (with_local name n)) (code.modify (resolved.with_number frame.numbers k))) e record {
@@ -192,13 +196,12 @@ module _ (c : Setting) (mesh_is : IsMesh (length c.mesh.points) (corner_lists c.
             → IfOk (IsStatementCode names frame (Var place name at init))
             (in_sequence (number_declared_by names (with_accesses mid frame) name at found) (var_made value))
         by value mid (Some other) is h = tt
-        by value mid None is h = (record { numbers = omega arith; elements = omega arith }, λ fit within.
+        by value mid None is h = (record { numbers = omega arith; elements = omega arith }, λ fit. number_fits names (with_accesses mid frame) name is (with_fit mid fit) (with_number (with_accesses mid frame)) refl refl, λ fit within.
             let fit' : SlotsFit names (with_accesses mid frame) = record { numbers = fit.numbers; elements = fit.elements; apart = fit.apart } in
             let operand = h within.accesses in
             record {
               accesses = operand.0;
               extends = extends_by_one names (number_name name (with_accesses mid frame));
-              fit = number_fits names (with_accesses mid frame) name is fit' (with_number (with_accesses mid frame)) refl refl;
               follows = rw (var_is c.mesh frame.numbers value) (simulates_then {next = λ n. modify (with_local name n)} (extends_itself names) operand.1
                   (λ n k e. number_step names (with_accesses mid frame) name is fit' (omega (arith, within.numbers)) n k e));
             })
@@ -212,14 +215,13 @@ module _ (c : Setting) (mesh_is : IsMesh (length c.mesh.points) (corner_lists c.
             → IfOk (IsStatementCode names frame (Val place name at init))
             (in_sequence (element_declared_by names (with_accesses mid frame) name at kind found) (val_made value))
         by kind value mid (Some other) is h = tt
-        by kind value mid None is h = (record { numbers = omega arith; elements = omega (arith, length-append frame.elements (kind ∷ [])) }, λ fit within.
+        by kind value mid None is h = (record { numbers = omega arith; elements = omega (arith, length-append frame.elements (kind ∷ [])) }, λ fit. element_fits names (with_accesses mid frame) name kind is (with_fit mid fit) (with_element kind (with_accesses mid frame)) refl refl, λ fit within.
             let fit' : SlotsFit names (with_accesses mid frame) = record { numbers = fit.numbers; elements = fit.elements; apart = fit.apart } in
             let operand = h within.accesses in
             let longer : length (frame.elements ++ kind ∷ []) ≡ length frame.elements + 1 = length-append frame.elements (kind ∷ []) in
             record {
               accesses = operand.0;
               extends = extends_by_one names (element_name name kind (with_accesses mid frame));
-              fit = element_fits names (with_accesses mid frame) name kind is fit' (with_element kind (with_accesses mid frame)) refl refl;
               follows = rw (val_is c.mesh (length frame.elements) value) (simulates_then {next = λ x. modify (state.with_element name x)} (extends_itself names) operand.1
                   (λ x y e. element_step names (with_accesses mid frame) name kind is fit' (omega (arith, within.elements, longer)) x y e.0 e.1));
             })
@@ -354,9 +356,6 @@ module _ (c : Setting) (mesh_is : IsMesh (length c.mesh.points) (corner_lists c.
         at (Some x) = record { at = λ m a r. spot_matches names (spot_of field x) how n m a mode r (value_in m.state.fields (spot_of field x)) }
 
   -- THE CODE OF ASSIGNMENTS
-  with_fit : {names : Names} {frame : Frame} (accesses : Accesses) → SlotsFit names frame → SlotsFit names (with_accesses accesses frame)
-  with_fit accesses fit = record { numbers = fit.numbers; elements = fit.elements; apart = fit.apart }
-
   abbrev Assigned : Type 0
   Assigned = StatementCode × Frame
 
@@ -367,14 +366,14 @@ module _ (c : Setting) (mesh_is : IsMesh (length c.mesh.points) (corner_lists c.
   with_names names assignment = Ok (assignment.0, names, assignment.1)
 
   assignment_code : (names : Names) (frame : Frame) (s : Statement) (r : Result Assigned ProgramFault) → IfOk (IsAssignment names frame s) r → IfOk (IsStatementCode names frame s) (in_sequence r (with_names names))
-  assignment_code names frame s (Ok r) h = h
+  assignment_code names frame s (Ok r) h = (h.0, still_fit h.0, h.1)
   assignment_code names frame s (Err fault) h = tt
 
   name_follows : (names : Names) (frame : Frame) (place : Place) (name : List ℕ) (how : How) (value : Expression) (made : StatementCode) (later : Accesses) → Within c frame.accesses → SlotsFit names frame
       → Statements names names (statement_meaning c.mesh c.globals (Assign place name None how value)) (resolved.statement_execution c.mesh made)
       → StatementFollows names frame (Assign place name None how value) made names (with_accesses later frame)
   name_follows names frame place name how value made later w fit f = record {
-    accesses = w; extends = extends_itself names; fit = with_fit later fit; follows = f;
+    accesses = w; extends = extends_itself names; follows = f;
   }
 
   abbrev scalar_made : Frame → ℕ → How → NumberCode × Accesses → Result Assigned ProgramFault
@@ -431,7 +430,7 @@ module _ (c : Setting) (mesh_is : IsMesh (length c.mesh.points) (corner_lists c.
       let operand_is = h within.accesses in
       let target_is = known operand_is.0 in
       record {
-        accesses = target_is.0; extends = extends_itself names; fit = with_fit operand.1 fit;
+        accesses = target_is.0; extends = extends_itself names;
         follows = rw (assign_field_is c.mesh place field how x operand.0)
             (simulates_then {next = λ n. and_then (element_in c.mesh c.globals target) (λ y. assign_field place how (binding_of c.globals name) n y)} (extends_itself names) operand_is.1 (λ n k e.
             simulates_then {next = λ y. assign_field place how (binding_of c.globals name) n y} (extends_itself names) target_is.2
@@ -492,13 +491,14 @@ module _ (c : Setting) (mesh_is : IsMesh (length c.mesh.points) (corner_lists c.
       → IsStatementCode names frame (If place test first second has_else) (statement_code.If x one.0 two.0, names, two.1)
   if_follows names frame place test first second has_else x mid one two h f g = (
     grows_then (record { numbers = f.0.numbers; elements = f.0.elements }) g.0,
+    still_fit (grows_then (record { numbers = f.0.numbers; elements = f.0.elements }) g.0),
     λ fit within.
         let fit_one = still_fit f.0 (with_fit mid fit) in
         let second_is = g.1 fit_one within in
         let first_is = f.1 (with_fit mid fit) (within_earlier second_is.accesses g.0 within) in
         let test_is = h first_is.accesses in
         record {
-          accesses = test_is.0; extends = extends_itself names; fit = still_fit g.0 fit_one;
+          accesses = test_is.0; extends = extends_itself names;
           follows = rw (if_is c.mesh x one.0 two.0) (simulates_then {next = λ b. if_then_else b (in_block (body_meaning c.mesh c.globals first)) (in_block (body_meaning c.mesh c.globals second))} (extends_itself names) test_is.1
               (λ b d e. subst (λ d. Statements names names (if_then_else b (in_block (body_meaning c.mesh c.globals first)) (in_block (body_meaning c.mesh c.globals second)))
               (code.if_then_else d (resolved.body_execution c.mesh one.0) (resolved.body_execution c.mesh two.0))) e
@@ -511,11 +511,212 @@ module _ (c : Setting) (mesh_is : IsMesh (length c.mesh.points) (corner_lists c.
       → IsStatementCode names frame (While place test body) (statement_code.While place x block.0, names, block.1)
   while_follows names frame place test body x mid block h f = (
     record { numbers = f.0.numbers; elements = f.0.elements },
+    still_fit (record { numbers = f.0.numbers; elements = f.0.elements }),
     λ fit within.
         let body_is = f.1 (with_fit mid fit) within in
         let test_is = h body_is.accesses in
         record {
-          accesses = test_is.0; extends = extends_itself names; fit = still_fit f.0 (with_fit mid fit);
+          accesses = test_is.0; extends = extends_itself names;
           follows = rw (while_is c.mesh place x block.0) (simulates_loop place Spent test_is.1 (block_follows names (with_accesses mid frame) body block.0 block.1 body_is));
         },
   )
+
+  -- SETS
+  weaker : (names : Names) {S T : EvaluationState → Activation → Type 0} → ((m : EvaluationState) (a : Activation) → S m a → T m a) → (before m : EvaluationState) (a : Activation) (acts : List Act)
+      (x y : Result (Unit {0}) Stop) → Matches c Same S names before m a acts x y → Matches c Same T names before m a acts x y
+  weaker names h before m a acts (Ok x) (Ok y) g = (g.0, h m a g.1, g.2, g.3)
+  weaker names h before m a acts (Err (Trapped t)) (Err (Trapped u)) g = g
+  weaker names h before m a acts (Err NoMeaning) y g = tt
+  weaker names h before m a acts (Ok x) (Err u) g = g
+  weaker names h before m a acts (Err (Trapped t)) (Ok y) g = g
+  weaker names h before m a acts (Err (Trapped t)) (Err NoMeaning) g = g
+
+  more_from_later : {names later : Names} → Extends names later → (m : EvaluationState) (a : Activation) → AgreesWithMore c later m a → AgreesWithMore c names m a
+  more_from_later e m a h = record { later = h.later; extends = extends_then e h.extends; agrees = h.agrees }
+
+  members_are : (kind : Kind) (set : SetName) (x : Elem) → has_set kind set ≡ true → IsElement c.mesh kind x → resolved.set_members c.mesh set x ≡ Some (members c.mesh set x)
+  members_are kind set x has of =
+      ap (λ b. resolved.given b (members c.mesh set x)) (both_are (lt-ltb x.id (count c.mesh x.kind) (subst (λ kind. x.id < count c.mesh kind) (sym of.0) of.1)) (ap (λ kind. has_set kind set) of.0 ∙ has)) where
+        both_are : {a b : Bool} → a ≡ true → b ≡ true → (a && b) ≡ true
+        both_are h g = rw (h, g) refl
+
+  set_operand_of : (kind : Kind) (set : SetName) (x : Elem) → has_set kind set ≡ true → IsElement c.mesh kind x → IsSetOperand c.mesh set x
+  set_operand_of kind set x has of = record {
+    in_range = subst (λ kind. x.id < count c.mesh kind) (sym of.0) of.1;
+    kind_has_set = ap (λ kind. has_set kind set) of.0 ∙ has;
+  }
+
+  module _ (names : Names) (frame : Frame) (name : List ℕ) (set : SetName) (set_at : Place) (body : Body) (block : Block) (new : resolution_of names name ≡ None) (fit : SlotsFit names frame)
+      (room : length frame.elements < c.elements)
+      (body_is : BodyFollows (names ++ element_name name (kind_of set) frame ∷ []) (with_element (kind_of set) frame) [] body block.0 block.1) where
+    abbrev later_names : Names
+    later_names = names ++ element_name name (kind_of set) frame ∷ []
+
+    abbrev member_meaning : Option Elem → Computation EvaluationState (Unit {0})
+    member_meaning x = and_then (modify (state.with_element name x)) (λ done. body_meaning c.mesh c.globals body)
+
+    body_code : Simulates c Same (Agrees c later_names) (AgreesWithMore c later_names) later_names (body_meaning c.mesh c.globals body) (resolved.body_execution c.mesh block.0)
+    body_code = subst (λ codes. Simulates c Same (Agrees c later_names) (AgreesWithMore c later_names) later_names (body_meaning c.mesh c.globals body) (resolved.body_execution c.mesh codes)) (sym body_is.is) body_is.follows
+
+    member_follows : (x : Elem) → IsElement c.mesh (kind_of set) x
+        → Statements names names (in_block (member_meaning (Some x))) (resolved.visit (length frame.elements) (resolved.body_execution c.mesh block.0) x)
+    member_follows x of = simulates_block (weakened (simulates_then {next = λ done. body_meaning c.mesh c.globals body} (extends_by_one names (element_name name (kind_of set) frame))
+        (element_step names frame name (kind_of set) new fit room (Some x) (Some x) refl of) (λ u v same. body_code))) where
+          weakened : Simulates c Same (Agrees c names) (AgreesWithMore c later_names) names (member_meaning (Some x)) (resolved.visit (length frame.elements) (resolved.body_execution c.mesh block.0) x)
+              → Simulates c Same (Agrees c names) (AgreesWithMore c names) names (member_meaning (Some x)) (resolved.visit (length frame.elements) (resolved.body_execution c.mesh block.0) x)
+          weakened h = record {
+            at = λ m a r. weaker names (more_from_later (extends_by_one names (element_name name (kind_of set) frame))) m (member_meaning (Some x) m).after
+                (resolved.visit (length frame.elements) (resolved.body_execution c.mesh block.0) x c.view a).after (resolved.visit (length frame.elements) (resolved.body_execution c.mesh block.0) x c.view a).acts
+                (member_meaning (Some x) m).answer (resolved.visit (length frame.elements) (resolved.body_execution c.mesh block.0) x c.view a).answer (h.at m a r);
+          }
+
+    set_follows : (kind : Kind) → has_set kind set ≡ true → (x : Option Elem) → IsNilOrElement c.mesh kind x
+        → Statements names names (for_each_member c.mesh set_at member_meaning (members c.mesh set) x)
+        (resolved.visit_set c.mesh (length frame.elements) set set_at (resolved.body_execution c.mesh block.0) x)
+    set_follows kind has None of = simulates_trap NilElement set_at
+    set_follows kind has (Some x) of =
+        subst (λ xs. Statements names names (for_each_member c.mesh set_at member_meaning (members c.mesh set) (Some x)) (resolved.visit_members (length frame.elements) (resolved.body_execution c.mesh block.0) xs))
+        (sym (members_are kind set x has of))
+        (simulates_for_each {P = IsElement c.mesh (kind_of set)} member_follows (members c.mesh set x) (members_of c.mesh set x mesh_is (set_operand_of kind set x has of)))
+
+    set_step : (kind : Kind) → has_set kind set ≡ true → (x y : Option Elem) → x ≡ y → IsNilOrElement c.mesh kind y
+        → Statements names names (for_each_member c.mesh set_at member_meaning (members c.mesh set) x)
+        (resolved.visit_set c.mesh (length frame.elements) set set_at (resolved.body_execution c.mesh block.0) y)
+    set_step kind has x y e of =
+        subst (λ x. Statements names names (for_each_member c.mesh set_at member_meaning (members c.mesh set) x)
+        (resolved.visit_set c.mesh (length frame.elements) set set_at (resolved.body_execution c.mesh block.0) y)) (sym e) (set_follows kind has y of)
+
+  for_follows : (names : Names) (frame : Frame) (place : Place) (name : List ℕ) (at : Place) (set : SetName) (set_at : Place) (arg : Expression) (body : Body) (kind : Kind) (x : ElementCode) (mid : Accesses) (block : Block)
+      → resolution_of names name ≡ None → has_set kind set ≡ true → IsCode c names arg frame.accesses (typed.Element kind x, mid)
+      → IsBodyCode (names ++ element_name name (kind_of set) (with_accesses mid frame) ∷ []) (with_element (kind_of set) (with_accesses mid frame)) [] body block
+      → IsStatementCode names frame (For place name at set set_at arg body) (statement_code.For (length frame.elements) set set_at x block.0, names, block.1)
+  for_follows names frame place name at set set_at arg body kind x mid block new has h f = (
+    record { numbers = f.0.numbers; elements = omega (arith, f.0.elements, length-append frame.elements (kind_of set ∷ [])) },
+    still_fit (record { numbers = f.0.numbers; elements = omega (arith, f.0.elements, length-append frame.elements (kind_of set ∷ [])) }),
+    λ fit within.
+        let longer : length (frame.elements ++ kind_of set ∷ []) ≡ length frame.elements + 1 = length-append frame.elements (kind_of set ∷ []) in
+        let fit' : SlotsFit names (with_accesses mid frame) = with_fit mid fit in
+        let body_is = f.1 (element_fits names (with_accesses mid frame) name (kind_of set) new fit' (with_element (kind_of set) (with_accesses mid frame)) refl refl) within in
+        let arg_is = h body_is.accesses in
+        record {
+          accesses = arg_is.0; extends = extends_itself names;
+          follows = rw (for_is c.mesh (length frame.elements) set set_at x block.0)
+              (simulates_then {next = λ y. for_each_member c.mesh set_at (λ member. and_then (modify (state.with_element name member)) (λ done. body_meaning c.mesh c.globals body)) (members c.mesh set) y}
+              (extends_itself names) (element_alone c names arg_is.1)
+              (λ y z e. set_step names (with_accesses mid frame) name set set_at body block new fit' (omega (arith, f.0.elements, within.elements, longer)) body_is kind has y z e.0 e.1));
+        },
+  )
+
+  abbrev for_made : Names → SetName → Place → ElementCode → ℕ → Block → Result Made ProgramFault
+  for_made names set set_at x slot block = Ok (statement_code.For slot set set_at x block.0, names, block.1)
+
+  abbrev for_body : Names → SetName → Place → Body → ElementCode → Declared → Result Made ProgramFault
+  for_body names set set_at body x declared = in_sequence (resolved_body declared.1 declared.2 [] body) (for_made names set set_at x declared.0)
+
+  abbrev for_declared : Names → Frame → List ℕ → Place → SetName → Place → Body → Accesses → Option Resolution → ElementCode → Result Made ProgramFault
+  for_declared names frame name at set set_at body mid found x =
+      in_sequence (element_declared_by names (with_accesses mid frame) name at (kind_of set) found) (for_body names set set_at body x)
+
+  set_operand_code : (names : Names) (frame : Frame) (place : Place) (name : List ℕ) (at : Place) (set : SetName) (set_at : Place) (arg : Expression) (body : Body)
+      → ((names : Names) (frame : Frame) → IfOk (IsBodyCode names frame [] body) (resolved_body names frame [] body)) → (operand : TypedCode) (mid : Accesses) → IsCode c names arg frame.accesses (operand, mid)
+      → (found : Option Resolution) → resolution_of names name ≡ found → IfOk (IsStatementCode names frame (For place name at set set_at arg body)) (in_sequence (element_with_set set set_at operand) (for_declared names frame name at set set_at body mid found))
+  set_operand_code names frame place name at set set_at arg body bodies (typed.Element kind x) mid h found here = go (has_set kind set) refl found here where
+    go : (b : Bool) → has_set kind set ≡ b → (found : Option Resolution) → resolution_of names name ≡ found
+        → IfOk (IsStatementCode names frame (For place name at set set_at arg body)) (in_sequence (if b then Ok x else fails TypeMismatch set_at) (for_declared names frame name at set set_at body mid found))
+    go false has found here = tt
+    go true has (Some other) here = tt
+    go true has None here =
+        ok_then (IsBodyCode (names ++ element_name name (kind_of set) (with_accesses mid frame) ∷ []) (with_element (kind_of set) (with_accesses mid frame)) [] body)
+        (IsStatementCode names frame (For place name at set set_at arg body))
+        (resolved_body (names ++ element_name name (kind_of set) (with_accesses mid frame) ∷ []) (with_element (kind_of set) (with_accesses mid frame)) [] body)
+        (for_made names set set_at x (length frame.elements)) (bodies (names ++ element_name name (kind_of set) (with_accesses mid frame) ∷ []) (with_element (kind_of set) (with_accesses mid frame)))
+        (λ block f. for_follows names frame place name at set set_at arg body kind x mid block here has h f)
+  set_operand_code names frame place name at set set_at arg body bodies (typed.Number x) mid h found here = tt
+  set_operand_code names frame place name at set set_at arg body bodies (typed.Truth x) mid h found here = tt
+
+  -- EVERY FORM of statement, and bodies
+  body_then : (names : Names) (frame : Frame) (done : List StatementCode) (s : Statement) (rest : Body) (next : Made) (r : Block) → IsStatementCode names frame s next
+      → IsBodyCode next.1 next.2 (done ++ next.0 ∷ []) rest r → IsBodyCode names frame done (statement s rest) r
+  body_then names frame done s rest next r h g = (
+    grows_then h.0 g.0,
+    λ fit within.
+        let rest_is = g.1 (h.1 fit) within in
+        let first_is = h.2 fit (within_earlier rest_is.accesses g.0 within) in
+        record {
+          accesses = first_is.accesses;
+          new = next.0 ∷ rest_is.new;
+          is = rest_is.is ∙ append_assoc done (next.0 ∷ []) rest_is.new;
+          follows = simulates_then {next = λ u. body_meaning c.mesh c.globals rest} first_is.extends first_is.follows (λ u v same. more rest_is.new first_is.extends rest_is.follows);
+        },
+  ) where
+    more : (new : List StatementCode) → Extends names next.1
+        → Simulates c Same (Agrees c next.1) (AgreesWithMore c next.1) next.1 (body_meaning c.mesh c.globals rest) (resolved.body_execution c.mesh new)
+        → Simulates c Same (Agrees c next.1) (AgreesWithMore c names) next.1 (body_meaning c.mesh c.globals rest) (resolved.body_execution c.mesh new)
+    more new e k = record {
+      at = λ m a r. weaker next.1 (more_from_later e) m (body_meaning c.mesh c.globals rest m).after (resolved.body_execution c.mesh new c.view a).after (resolved.body_execution c.mesh new c.view a).acts
+          (body_meaning c.mesh c.globals rest m).answer (resolved.body_execution c.mesh new c.view a).answer (k.at m a r);
+    }
+
+  no_more : (names : Names) (frame : Frame) (done : List StatementCode) → IsBodyCode names frame done no_statement (done, frame)
+  no_more names frame done = (
+    grows_itself frame,
+    λ fit within. record {
+      accesses = within.accesses; new = []; is = sym (append-nil done);
+      follows = record { at = λ m a r. (tt, record { later = names; extends = extends_itself names; agrees = r }, nested_itself names m, sym (append-nil m.acts)) };
+    },
+  )
+
+  abbrev if_made : Names → TruthCode → Block → Block → Result Made ProgramFault
+  if_made names x one two = Ok (statement_code.If x one.0 two.0, names, two.1)
+
+  abbrev if_second : Names → Body → TruthCode → Block → Result Made ProgramFault
+  if_second names second x one = in_sequence (resolved_body names one.1 [] second) (if_made names x one)
+
+  abbrev if_first : Names → Frame → Body → Body → TruthCode × Accesses → Result Made ProgramFault
+  if_first names frame first second condition = in_sequence (resolved_body names (with_accesses condition.1 frame) [] first) (if_second names second condition.0)
+
+  abbrev while_made : Names → Place → TruthCode → Block → Result Made ProgramFault
+  while_made names place x block = Ok (statement_code.While place x block.0, names, block.1)
+
+  abbrev while_body : Names → Frame → Place → Body → TruthCode × Accesses → Result Made ProgramFault
+  while_body names frame place body condition = in_sequence (resolved_body names (with_accesses condition.1 frame) [] body) (while_made names place condition.0)
+
+  abbrev for_operand : Names → Frame → List ℕ → Place → SetName → Place → Body → TypedCode × Accesses → Result Made ProgramFault
+  for_operand names frame name at set set_at body operand =
+      in_sequence (element_with_set set set_at operand.0) (for_declared names frame name at set set_at body operand.1 (resolution_of names name))
+
+  mutual
+    pub statement_code_of : (s : Statement) (names : Names) (frame : Frame) → IfOk (IsStatementCode names frame s) (resolved_statement names frame s)
+    statement_code_of (Var place name at init) names frame = var_code names frame place name at init
+    statement_code_of (Val place name at init) names frame = val_code names frame place name at init
+    statement_code_of (Assign place name (Some target) how value) names frame =
+        assignment_code names frame (Assign place name (Some target) how value) (resolved_field_assignment names frame place how target value (resolution_of names name))
+        (field_assignment_code names frame place name target how value (resolution_of names name) refl)
+    statement_code_of (Assign place name None how value) names frame =
+        assignment_code names frame (Assign place name None how value) (resolved_assignment names frame place how value (resolution_of names name))
+        (name_assignment_code names frame place name how value (resolution_of names name) refl)
+    statement_code_of (If place test first second has_else) names frame =
+        ok_then (IsTruthCode names frame.accesses test) (IsStatementCode names frame (If place test first second has_else)) (resolved_truth names frame.accesses test) (if_first names frame first second)
+        (truth_code names frame.accesses test) (λ condition h.
+        ok_then (IsBodyCode names (with_accesses condition.1 frame) [] first) (IsStatementCode names frame (If place test first second has_else)) (resolved_body names (with_accesses condition.1 frame) [] first)
+        (if_second names second condition.0) (body_code_of first names (with_accesses condition.1 frame) []) (λ one f.
+        ok_then (IsBodyCode names one.1 [] second) (IsStatementCode names frame (If place test first second has_else)) (resolved_body names one.1 [] second) (if_made names condition.0 one)
+        (body_code_of second names one.1 []) (λ two g. if_follows names frame place test first second has_else condition.0 condition.1 one two h f g)))
+    statement_code_of (While place test body) names frame =
+        ok_then (IsTruthCode names frame.accesses test) (IsStatementCode names frame (While place test body)) (resolved_truth names frame.accesses test) (while_body names frame place body)
+        (truth_code names frame.accesses test) (λ condition h.
+        ok_then (IsBodyCode names (with_accesses condition.1 frame) [] body) (IsStatementCode names frame (While place test body)) (resolved_body names (with_accesses condition.1 frame) [] body)
+        (while_made names place condition.0) (body_code_of body names (with_accesses condition.1 frame) [])
+        (λ block f. while_follows names frame place test body condition.0 condition.1 block h f))
+    statement_code_of (For place name at set set_at arg body) names frame =
+        ok_then (IsCode c names arg frame.accesses) (IsStatementCode names frame (For place name at set set_at arg body)) (resolved_expression names frame.accesses arg) (for_operand names frame name at set set_at body)
+        (expression_code c names frame.accesses arg) (λ operand h.
+        set_operand_code names frame place name at set set_at arg body (λ names frame. body_code_of body names frame []) operand.0 operand.1 h (resolution_of names name) refl)
+
+    pub body_code_of : (body : Body) (names : Names) (frame : Frame) (done : List StatementCode) → IfOk (IsBodyCode names frame done body) (resolved_body names frame done body)
+    body_code_of no_statement names frame done = no_more names frame done
+    body_code_of (statement s rest) names frame done =
+        ok_then (IsStatementCode names frame s) (IsBodyCode names frame done (statement s rest)) (resolved_statement names frame s) (λ next. resolved_body next.1 next.2 (done ++ next.0 ∷ []) rest)
+        (statement_code_of s names frame) (λ next h.
+        ok_weaken (IsBodyCode next.1 next.2 (done ++ next.0 ∷ []) rest) (IsBodyCode names frame done (statement s rest)) (resolved_body next.1 next.2 (done ++ next.0 ∷ []) rest)
+        (body_code_of rest next.1 next.2 (done ++ next.0 ∷ [])) (λ r g. body_then names frame done s rest next r h g))
