@@ -2,6 +2,7 @@ pub mod AccessLemmas
 pub mod ActLemmas
 pub mod ActModeLemmas
 pub mod BindingLemmas
+pub mod CodeIterationLemmas
 pub mod CommutationLemmas
 pub mod ComputationLemmas
 pub mod ConditionLemmas

@@ -25,14 +25,14 @@ use Rattle.kernel_eval.specs.States.{Fields, value_in, with_value, updated_entry
 use Rattle.kernel_eval.proofs.SimulationLemmas.{Setting, NameAgrees, Agrees, Extends, IsNested, keys, Simulates, Same}
 
 -- NAMES with one more
-kept_name : (names : Names) (entry : List ℕ × Resolution) (name : List ℕ) (r : Resolution) → resolution_of names name ≡ Some r → resolution_of (names ++ entry ∷ []) name ≡ Some r
+pub kept_name : (names : Names) (entry : List ℕ × Resolution) (name : List ℕ) (r : Resolution) → resolution_of names name ≡ Some r → resolution_of (names ++ entry ∷ []) name ≡ Some r
 kept_name [] entry name r e = absurd cc
 kept_name (first ∷ names) entry name r e = elim (cases_Bool (bytes_eq name first.0)) [
   | inl is ↦ rw is (rw is at e)
   | inr is ↦ rw is (kept_name names entry name r (rw is at e))
 ]
 
-added_name : (names : Names) (entry : List ℕ × Resolution) (name : List ℕ) (b : Bool) → resolution_of names name ≡ None → bytes_eq name entry.0 ≡ b
+pub added_name : (names : Names) (entry : List ℕ × Resolution) (name : List ℕ) (b : Bool) → resolution_of names name ≡ None → bytes_eq name entry.0 ≡ b
     → resolution_of (names ++ entry ∷ []) name ≡ (if b then Some entry.1 else None)
 added_name [] entry name true e is = rw is refl
 added_name [] entry name false e is = rw is refl

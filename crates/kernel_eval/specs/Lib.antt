@@ -1,3 +1,4 @@
+pub mod CodeIterations
 pub mod Expressions
 pub mod Fits
 pub mod Internal

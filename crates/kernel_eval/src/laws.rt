@@ -1,7 +1,7 @@
 //! Laws of the definitions, each the contract of a function that does nothing.
 
 ghost use Rattle.liszt_base.specs.MeshLists.{MeshLists};
-ghost use Rattle.std.specs.Prelude.{◌++◌, ◌∷◌, ◌<◌, ◌≡◌, ℕ, ℤ, Err, List, None, Ok, Option, Some, is_some, length, true};
+ghost use Rattle.std.specs.Prelude.{◌++◌, ◌∷◌, ◌<◌, ◌≡◌, ℕ, ℤ, Err, List, None, Ok, Option, Some, is_some, length, slice_get, true};
 ghost use Rattle.std.specs.Option.{option_map};
 ghost use Rattle.std.specs.Str.{bytes_eq};
 ghost use Rattle.liszt_base.specs.Corners.{IsMesh};
@@ -9,15 +9,22 @@ ghost use Rattle.std.specs.List.{AllByRecursion};
 ghost use Rattle.liszt_base.specs.declared.answers.Place.{Place};
 ghost use Rattle.liszt_base.specs.Reductions.{InRange, fold};
 ghost use Rattle.liszt_base.specs.declared.accesses.Mode.TheVariants.{Reduce};
+ghost use Rattle.liszt_base.specs.declared.accesses.Spot.{Spot};
 ghost use Rattle.liszt_base.specs.declared.elements.Elem.{Elem};
 ghost use Rattle.liszt_base.specs.declared.elements.Op.{Op};
 ghost use Rattle.liszt_base.specs.declared.answers.TrapKind.TheVariants.{Spent};
 ghost use Rattle.liszt_tree.specs.declared.tree.How.{How};
-ghost use Rattle.liszt_tree.specs.Tree.{Body, Expression, Statement, While, statement};
+ghost use Rattle.liszt_tree.specs.Tree.{Body, Expression, Main, Statement, While, statement};
 ghost use Rattle.mesh_topology.specs.Elements.{corner_lists, count};
-ghost use Rattle.phase_types.specs.Environments.{Binding, Comprehension, Environment, lookup};
+ghost use Rattle.resolved_code.specs.declared.items.ComprehensionCode.{ComprehensionCode};
+ghost use Rattle.phase_types.specs.Checked.{checked_program};
+ghost use Rattle.phase_types.specs.declared.state.CheckedProgram.{CheckedProgram};
+ghost use Rattle.phase_types.specs.Environments.{Binding, Comprehension, Environment, comprehension_of, lookup};
 ghost use Rattle.phase_types.specs.Typed.{ComprehensionFits};
 ghost use Rattle.phase_types.specs.Walk.{OfField, OfScalar, mode_in};
+ghost use Rattle.code_eval.specs.Meaning.{body_execution};
+ghost use Rattle.code_eval.specs.declared.activation.Activation.{Activation};
+ghost use Rattle.kernel_eval.specs.CodeIterations.{IsReady, HasValues, DoesIteration};
 ghost use Rattle.kernel_eval.specs.Expressions.{element_value, elements_after};
 ghost use Rattle.kernel_eval.specs.Fits.{StateFits};
 ghost use Rattle.kernel_eval.specs.Iterations.{acts, iteration, iteration_end, partial};
@@ -181,4 +188,19 @@ pub fn typed_iterations_end()
     ensures fits { (mesh : MeshLists) (c : Comprehension) (turns : ℕ) (s : State) (id : ℕ)
         → StateFits mesh c.environment s
         → StateFits mesh c.environment (iteration mesh c turns s id).after.state }
+{}
+
+/// The code of a comprehension of a checked program does its iterations. From an activation that is ready, over values of reads
+/// that are those of a state, the body makes the acts of the tree's iteration from that state, in order, ends as it does, and folds
+/// its reductions of scalars into the partials; also if it traps.
+pub fn resolved_code_does_its_iterations()
+    ensures { (program : Main) (checked : CheckedProgram) (k : ℕ) (code : ComprehensionCode)
+        (c : Comprehension) (mesh : MeshLists) (turns : ℕ) (s : State) (id : ℕ)
+        (values : Spot → ℤ) (a : Activation)
+        → checked_program program ≡ Ok checked → slice_get checked.comprehensions k ≡ Some code
+        → comprehension_of program k ≡ Some c
+        → IsMesh (length mesh.points) (corner_lists mesh)
+        → ComprehensionFits c → StateFits mesh c.environment s → id < count mesh c.over
+        → IsReady code c turns s id a → HasValues c s values
+        → DoesIteration mesh c turns s id a (body_execution mesh code.body values a) }
 {}
