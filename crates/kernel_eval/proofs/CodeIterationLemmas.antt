@@ -1,20 +1,18 @@
 -- The code of a comprehension does its iterations.
-use Rattle.std.proofs.Common.{◌≡◌, ◌≢◌, ◌<◌, ◌≤◌, ℕ, Bool, true, false, List, [], ◌∷◌, ◌++◌, length, get_or, refl, sym, ap, subst, ◌∙◌, inl, inr, arith}
+use Rattle.std.proofs.Common.{◌≡◌, ◌≢◌, ◌<◌, ℕ, Bool, true, false, List, [], ◌∷◌, ◌++◌, length, refl, sym, ap, subst, ◌∙◌, inl, inr, arith}
 use Rattle.std.proofs.lemmas.Bool.{cases_Bool}
 use Rattle.std.proofs.lemmas.Slice.Eq.{bytes_eq-Decides}
 use Rattle.std.specs.Option.{option_map}
-use Rattle.std.specs.Prelude.{Option, Some, None, is_some, ℤ, pos, slice_get, if◌then◌else◌, Result, Ok, Err}
+use Rattle.std.specs.Prelude.{Option, Some, None, is_some, ℤ, slice_get, if◌then◌else◌, Result, Ok, Err}
 use Rattle.std.specs.Str.{bytes_eq}
 use Rattle.liszt_base.specs.Corners.{IsMesh}
 use Rattle.liszt_base.specs.MeshLists.{MeshLists}
-use Rattle.liszt_base.specs.declared.accesses.Mode.TheVariants.{Read}
 use Rattle.liszt_base.specs.declared.accesses.Spot.{Spot}
-use Rattle.liszt_base.specs.declared.answers.Place.{Place}
 use Rattle.liszt_base.specs.declared.answers.ProgramFault.{ProgramFault}
 use Rattle.liszt_base.specs.declared.answers.Trap.{Trap}
 use Rattle.liszt_base.specs.declared.elements.Elem.{Elem}
 use Rattle.liszt_base.specs.declared.elements.Kind.{Kind}
-use Rattle.liszt_tree.specs.Tree.{Main, Body}
+use Rattle.liszt_tree.specs.Tree.{Main}
 use Rattle.mesh_topology.specs.Elements.{corner_lists, count}
 use Rattle.resolved_code.specs.declared.accesses.AccessAt.{AccessAt}
 use Rattle.resolved_code.specs.declared.items.ComprehensionCode.{ComprehensionCode}
@@ -26,28 +24,27 @@ use Rattle.phase_types.specs.declared.resolution.Resolution.{Resolution}
 use Rattle.phase_types.specs.declared.resolution.Resolution.TheVariants as resolution
 use Rattle.phase_types.specs.declared.state.CheckedProgram.{CheckedProgram}
 use Rattle.phase_types.specs.Checked.{checked_program}
-use Rattle.phase_types.specs.Environments.{Comprehension, Environment, LocalName, ElementName, FieldName, ScalarName, binding_of, comprehension_of}
-use Rattle.phase_types.specs.Resolve.{Names, Accesses, resolution_of, first_access, after_first, conflict_between, with_access, new_name, no_slots, element_name, with_element, accesses_in, resolved_body, resolved_comprehension}
+use Rattle.phase_types.specs.Environments.{Comprehension, LocalName, ElementName, comprehension_of}
+use Rattle.phase_types.specs.Resolve.{Names, Accesses, resolution_of, first_access, after_first, conflict_between, new_name, no_slots, element_name, with_element, accesses_in, resolved_body}
 use Rattle.phase_types.specs.Typed.{ComprehensionFits}
-use Rattle.phase_types.specs.Walk.{Step, TestStep, AccessStep, Subject, OfField, OfScalar, is_mode, mode_in, body_steps}
+use Rattle.phase_types.specs.Walk.{Step, TestStep, AccessStep, OfField, OfScalar, is_mode, body_steps}
 use Rattle.phase_types.proofs.BodyLemmas.{body_walks, declared, after_body}
 use Rattle.phase_types.proofs.CheckedLemmas.{IsCodeOf, checked_code}
-use Rattle.phase_types.proofs.ResolveLemmas.{Agrees as NamesAgree, binding_in}
+use Rattle.phase_types.proofs.ResolveLemmas.{binding_in}
 use Rattle.phase_types.proofs.WalkLemmas.{walk, Walks, IsAny}
 use Rattle.code_eval.specs.Acts.{Act}
 use Rattle.code_eval.specs.declared.activation.Activation.{Activation}
-use Rattle.code_eval.specs.Executions.{Executed, Done}
+use Rattle.code_eval.specs.Executions.{Done}
 use Rattle.code_eval.specs.Meaning.{body_execution}
 use Rattle.code_eval.specs.Stops.{Stop, Trapped, NoMeaning}
 use Rattle.kernel_eval.specs.CodeIterations.{IsReady, HasValues, DoesIteration}
 use Rattle.kernel_eval.specs.Fits.{StateFits}
 use Rattle.kernel_eval.specs.Iterations.{iteration_start, iteration, iteration_end, end_of, partials_after}
-use Rattle.kernel_eval.specs.Meaning.{body_meaning}
-use Rattle.kernel_eval.specs.States.{State, EvaluationState, value_in, scalar_value, local_bound_to, element_bound_to}
+use Rattle.kernel_eval.specs.States.{State, EvaluationState, element_bound_to}
 use Rattle.kernel_eval.proofs.ResolvingLemmas.{IfOk, in_sequence, Within}
-use Rattle.kernel_eval.proofs.ResolvedStatementLemmas.{IsWithinFrame, BodyFollows, IsBodyCode, body_code_of}
+use Rattle.kernel_eval.proofs.ResolvedStatementLemmas.{IsWithinFrame, IsBodyCode, body_code_of}
 use Rattle.kernel_eval.proofs.SimulationLemmas.{Setting, NameAgrees, Agrees, AgreesWithMore, Matches, Same}
-use Rattle.kernel_eval.proofs.SlotLemmas.{SlotsFit, extends_by_one, element_fits, kept_name, added_name}
+use Rattle.kernel_eval.proofs.SlotLemmas.{SlotsFit, element_fits, kept_name, added_name}
 use Rattle.kernel_eval.proofs.TypedEvaluationLemmas.{iteration_ends}
 
 abbrev as_ok : {A : Type 0} → A → Result A ProgramFault
@@ -94,7 +91,13 @@ module _ (mesh : MeshLists) (c : Comprehension) (code : ComprehensionCode) (is :
       (new : resolution_of is.names c.name ≡ None) where
     abbrev setting : Setting
     setting = record {
-      mesh = mesh; globals = c.environment; view = values; accesses = code.accesses; partials = a.partials; numbers = length a.numbers; elements = length a.elements;
+      mesh = mesh;
+      globals = c.environment;
+      view = values;
+      accesses = code.accesses;
+      partials = a.partials;
+      numbers = length a.numbers;
+      elements = length a.elements;
     }
 
     abbrev names : Names

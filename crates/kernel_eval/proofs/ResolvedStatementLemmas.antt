@@ -1,14 +1,14 @@
 -- The code of statements simulates them.
-use Rattle.std.proofs.Common.{◌≡◌, ◌≢◌, ◌<◌, ◌≤◌, ◌+◌, ℕ, suc, Bool, true, false, List, [], ◌∷◌, ◌++◌, map, length, get_or, refl, sym, ap, ap₂, subst, ◌∙◌, append_assoc, append-nil, arith}
+use Rattle.std.proofs.Common.{◌≡◌, ◌≢◌, ◌<◌, ◌≤◌, ◌+◌, ℕ, Bool, true, false, List, [], ◌∷◌, ◌++◌, length, get_or, refl, sym, ap, ap₂, subst, ◌∙◌, append_assoc, append-nil, arith}
 use Rattle.std.proofs.lemmas.Bool.{lt-ltb}
-use Rattle.std.proofs.lemmas.List.{length-append, length-set}
-use Rattle.std.specs.List.{AllByRecursion, slice_set}
-use Rattle.std.specs.Prelude.{Option, Some, None, ℤ, pos, nat_lt, ◌&&◌, if◌then◌else◌, Result, Ok, Err}
+use Rattle.std.proofs.lemmas.List.{length-append}
+use Rattle.std.specs.List.{slice_set}
+use Rattle.std.specs.Prelude.{Option, Some, None, ℤ, pos, ◌&&◌, if◌then◌else◌, Result, Ok, Err}
 use Rattle.liszt_base.specs.Corners.{IsMesh}
 use Rattle.liszt_base.specs.Kinds.{is_kind, has_set, kind_of}
 use Rattle.liszt_base.specs.Reductions.{fold}
 use Rattle.liszt_base.specs.declared.accesses.Mode.{Mode}
-use Rattle.liszt_base.specs.declared.accesses.Mode.TheVariants.{Read, Write, Reduce}
+use Rattle.liszt_base.specs.declared.accesses.Mode.TheVariants.{Read}
 use Rattle.liszt_base.specs.declared.accesses.Spot.{Spot}
 use Rattle.liszt_base.specs.declared.answers.Place.{Place}
 use Rattle.liszt_base.specs.declared.answers.ProgramFault.{ProgramFault}
@@ -36,7 +36,7 @@ use Rattle.phase_types.specs.declared.resolution.Resolution.TheVariants as resol
 use Rattle.phase_types.specs.declared.resolution.TypedCode.{TypedCode}
 use Rattle.phase_types.specs.declared.resolution.TypedCode.TheVariants as typed
 use Rattle.phase_types.specs.Environments.{Binding, FieldName, ScalarName, binding_of, is_built_in}
-use Rattle.phase_types.specs.Resolve.{fails, Names, Accesses, resolution_of, new_name, with_access, number_in as number_of_code, truth_in as truth_of_code, element_in as element_of_code, element_of_kind, element_with_set, resolved_expression, resolved_number, resolved_truth, resolved_element, with_accesses, with_number, with_element, number_name, element_name, assigned_field, with_reduction, resolved_assignment, resolved_field_assignment, declared_number, declared_element, resolved_var, resolved_val, resolved_statement, resolved_body}
+use Rattle.phase_types.specs.Resolve.{fails, Names, Accesses, resolution_of, new_name, with_access, number_in as number_of_code, truth_in as truth_of_code, element_in as element_of_code, element_of_kind, element_with_set, resolved_expression, resolved_number, resolved_truth, resolved_element, with_accesses, with_number, with_element, number_name, element_name, resolved_assignment, resolved_field_assignment, resolved_var, resolved_val, resolved_statement, resolved_body}
 use Rattle.phase_types.specs.Walk.{OfField, OfScalar, mode_by, place_of}
 use Rattle.code_eval.specs.Acts.{Act}
 use Rattle.code_eval.specs.Executions as code
@@ -46,13 +46,13 @@ use Rattle.code_eval.specs.Meaning as resolved
 use Rattle.code_eval.proofs.LayerLemmas.{var_is, val_is, assign_local_is, assign_scalar_is, assign_field_is, if_is, while_is, for_is}
 use Rattle.code_eval.specs.Stops.{Stop, Trapped, NoMeaning}
 use Rattle.kernel_eval.specs.Iterations.{partials_after, partials_after_fold}
-use Rattle.kernel_eval.specs.Meaning.{spot_of, operand, assigned_value, assign_spot, assign_field, with_scalar_fold, assign_scalar, assign_global, assign_name, in_block, for_each_member, meaning, number_in, truth_in, element_in, statement_meaning, body_meaning, trap}
-use Rattle.kernel_eval.specs.Outcomes.{Computation, and_then, modify, if_then_else, skip, for_each}
+use Rattle.kernel_eval.specs.Meaning.{spot_of, operand, assigned_value, assign_spot, assign_field, assign_scalar, assign_name, in_block, for_each_member, number_in, truth_in, element_in, statement_meaning, body_meaning}
+use Rattle.kernel_eval.specs.Outcomes.{Computation, and_then, modify, if_then_else}
 use Rattle.kernel_eval.specs.States.{EvaluationState, ScalarFold, value_in, with_value, with_fields, with_state, with_act, with_scalar_value, scalar_value, local_bound_to, element_bound_to, with_local, with_local_value}
 use Rattle.kernel_eval.specs.States as state
 use Rattle.kernel_eval.proofs.ResolvingLemmas.{IfOk, ok_then, ok_weaken, in_sequence, Within, access_known}
-use Rattle.kernel_eval.proofs.ResolvedExpressionLemmas.{NumberFollows, TruthFollows, ElementFollows, Follows, IsCode, expression_code, number_alone, truth_alone, element_alone, operand_holds, simulates_given}
-use Rattle.kernel_eval.proofs.SimulationLemmas.{Setting, known_mode, NameAgrees, Agrees, IsNested, Extends, extends_itself, extends_then, nested_itself, Matches, Simulates, Same, simulates_then, simulates_if, simulates_trap, simulates_skip, simulates_for_each, simulates_loop, simulates_block, AgreesWithMore}
+use Rattle.kernel_eval.proofs.ResolvedExpressionLemmas.{IsCode, expression_code, number_alone, truth_alone, element_alone, simulates_given}
+use Rattle.kernel_eval.proofs.SimulationLemmas.{Setting, known_mode, NameAgrees, Agrees, IsNested, Extends, extends_itself, extends_then, nested_itself, Matches, Simulates, Same, simulates_then, simulates_if, simulates_trap, simulates_for_each, simulates_loop, simulates_block, AgreesWithMore}
 use Rattle.kernel_eval.proofs.SlotLemmas.{SlotsFit, Grows, still_fit, extends_by_one, number_fits, element_fits, number_declared, element_declared, local_assigned, assigned_nested, local_nested, element_nested, other_field, other_scalar}
 
 -- THE FRAME after statements is within that of the whole comprehension.
@@ -196,15 +196,19 @@ module _ (c : Setting) (mesh_is : IsMesh (length c.mesh.points) (corner_lists c.
             → IfOk (IsStatementCode names frame (Var place name at init))
             (in_sequence (number_declared_by names (with_accesses mid frame) name at found) (var_made value))
         by value mid (Some other) is h = tt
-        by value mid None is h = (record { numbers = omega arith; elements = omega arith }, λ fit. number_fits names (with_accesses mid frame) name is (with_fit mid fit) (with_number (with_accesses mid frame)) refl refl, λ fit within.
-            let fit' : SlotsFit names (with_accesses mid frame) = record { numbers = fit.numbers; elements = fit.elements; apart = fit.apart } in
-            let operand = h within.accesses in
-            record {
-              accesses = operand.0;
-              extends = extends_by_one names (number_name name (with_accesses mid frame));
-              follows = rw (var_is c.mesh frame.numbers value) (simulates_then {next = λ n. modify (with_local name n)} (extends_itself names) operand.1
-                  (λ n k e. number_step names (with_accesses mid frame) name is fit' (omega (arith, within.numbers)) n k e));
-            })
+        by value mid None is h = (
+          record { numbers = omega arith; elements = omega arith },
+          λ fit. number_fits names (with_accesses mid frame) name is (with_fit mid fit) (with_number (with_accesses mid frame)) refl refl,
+          λ fit within.
+              let fit' : SlotsFit names (with_accesses mid frame) = record { numbers = fit.numbers; elements = fit.elements; apart = fit.apart } in
+              let operand = h within.accesses in
+              record {
+                accesses = operand.0;
+                extends = extends_by_one names (number_name name (with_accesses mid frame));
+                follows = rw (var_is c.mesh frame.numbers value) (simulates_then {next = λ n. modify (with_local name n)} (extends_itself names) operand.1
+                    (λ n k e. number_step names (with_accesses mid frame) name is fit' (omega (arith, within.numbers)) n k e));
+              },
+        )
 
   val_code : (names : Names) (frame : Frame) (place : Place) (name : List ℕ) (at : Place) (init : Expression) → IfOk (IsStatementCode names frame (Val place name at init)) (resolved_val names frame name at init)
   val_code names frame place name at init =
@@ -215,16 +219,20 @@ module _ (c : Setting) (mesh_is : IsMesh (length c.mesh.points) (corner_lists c.
             → IfOk (IsStatementCode names frame (Val place name at init))
             (in_sequence (element_declared_by names (with_accesses mid frame) name at kind found) (val_made value))
         by kind value mid (Some other) is h = tt
-        by kind value mid None is h = (record { numbers = omega arith; elements = omega (arith, length-append frame.elements (kind ∷ [])) }, λ fit. element_fits names (with_accesses mid frame) name kind is (with_fit mid fit) (with_element kind (with_accesses mid frame)) refl refl, λ fit within.
-            let fit' : SlotsFit names (with_accesses mid frame) = record { numbers = fit.numbers; elements = fit.elements; apart = fit.apart } in
-            let operand = h within.accesses in
-            let longer : length (frame.elements ++ kind ∷ []) ≡ length frame.elements + 1 = length-append frame.elements (kind ∷ []) in
-            record {
-              accesses = operand.0;
-              extends = extends_by_one names (element_name name kind (with_accesses mid frame));
-              follows = rw (val_is c.mesh (length frame.elements) value) (simulates_then {next = λ x. modify (state.with_element name x)} (extends_itself names) operand.1
-                  (λ x y e. element_step names (with_accesses mid frame) name kind is fit' (omega (arith, within.elements, longer)) x y e.0 e.1));
-            })
+        by kind value mid None is h = (
+          record { numbers = omega arith; elements = omega (arith, length-append frame.elements (kind ∷ [])) },
+          λ fit. element_fits names (with_accesses mid frame) name kind is (with_fit mid fit) (with_element kind (with_accesses mid frame)) refl refl,
+          λ fit within.
+              let fit' : SlotsFit names (with_accesses mid frame) = record { numbers = fit.numbers; elements = fit.elements; apart = fit.apart } in
+              let operand = h within.accesses in
+              let longer : length (frame.elements ++ kind ∷ []) ≡ length frame.elements + 1 = length-append frame.elements (kind ∷ []) in
+              record {
+                accesses = operand.0;
+                extends = extends_by_one names (element_name name kind (with_accesses mid frame));
+                follows = rw (val_is c.mesh (length frame.elements) value) (simulates_then {next = λ x. modify (state.with_element name x)} (extends_itself names) operand.1
+                    (λ x y e. element_step names (with_accesses mid frame) name kind is fit' (omega (arith, within.elements, longer)) x y e.0 e.1));
+              },
+        )
 
   -- ASSIGNMENTS to a local number
   local_matches : (names : Names) (frame : Frame) (name : List ℕ) (how : How) (slot : ℕ) → resolution_of names name ≡ Some (resolution.Number slot) → SlotsFit names frame → frame.numbers ≤ c.numbers
@@ -260,12 +268,16 @@ module _ (c : Setting) (mesh_is : IsMesh (length c.mesh.points) (corner_lists c.
       → folded.scalar ≡ scalar → fold folded.op (get_or a.partials scalar (pos 0)) folded.value ≡ assigned_value how (get_or a.partials scalar (pos 0)) n → Agrees c names m a
       → Agrees c names (record (with_state (with_scalar_value scalar (assigned_value how old n) m.state) m) { folds = m.folds ++ folded ∷ [] }) (resolved.with_partial scalar (assigned_value how (get_or a.partials scalar (pos 0)) n) a)
   reduced_agrees names how scalar n old folded m a mode not is value r = record {
-    elem = r.elem; turns = r.turns; named = r.named; fields = r.fields;
+    elem = r.elem;
+    turns = r.turns;
+    named = r.named;
+    fields = r.fields;
     scalars = λ other v known found. r.scalars other v known (sym (other_scalar scalar other (assigned_value how old n) m.state.scalars (other_than_reduced scalar other (mode_by how) mode not known)) ∙ found);
     partials =
         ap₂ (λ s v. slice_set a.partials s v) (sym is) (sym (ap (λ s. fold folded.op (get_or a.partials s (pos 0)) folded.value) is ∙ value))
         ∙ ap (λ partials. partials_after_fold partials folded) r.partials ∙ sym (one_more_fold c.partials m.folds folded);
-    numbers_room = r.numbers_room; elements_room = r.elements_room;
+    numbers_room = r.numbers_room;
+    elements_room = r.elements_room;
   }
 
   not_read : (how : How) → mode_by how ≢ Read
@@ -314,7 +326,7 @@ module _ (c : Setting) (mesh_is : IsMesh (length c.mesh.points) (corner_lists c.
       subst (λ k. Statements names names (λ m. assign_name name how n (local_bound_to m name) (binding_of c.globals name) m) (resolved.assign_scalar scalar how k)) e record {
         at = λ m a r.
             let h : (local_bound_to m name ≡ None) × (element_bound_to m name ≡ None) × (binding_of c.globals name ≡ Some (ScalarName scalar)) =
-                subst (NameAgrees c a name (local_bound_to m name) (element_bound_to m name)) here (r.named name) in
+            subst (NameAgrees c a name (local_bound_to m name) (element_bound_to m name)) here (r.named name) in
             named_scalar names name how scalar is mode n m a r (local_bound_to m name) h.0 (binding_of c.globals name) h.2;
       }
 
@@ -327,10 +339,15 @@ module _ (c : Setting) (mesh_is : IsMesh (length c.mesh.points) (corner_lists c.
   written_agrees : (names : Names) (spot : Spot) (how : How) (n old : ℤ) (m : EvaluationState) (a : Activation) → known_mode c (OfField spot.field) ≡ Some (mode_by how) → Agrees c names m a
       → Agrees c names (with_act (record { spot = spot; mode = mode_by how; value = operand how n }) (with_state (with_fields (with_value spot (assigned_value how old n) m.state.fields) m.state) m)) a
   written_agrees names spot how n old m a mode r = record {
-    elem = r.elem; turns = r.turns; named = r.named;
+    elem = r.elem;
+    turns = r.turns;
+    named = r.named;
     fields = λ other value known declared found.
         r.fields other value known declared (sym (other_field spot other (assigned_value how old n) m.state.fields (other_than_written spot.field other.field (mode_by how) mode (not_read how) known)) ∙ found);
-    scalars = r.scalars; partials = r.partials; numbers_room = r.numbers_room; elements_room = r.elements_room;
+    scalars = r.scalars;
+    partials = r.partials;
+    numbers_room = r.numbers_room;
+    elements_room = r.elements_room;
   }
 
   written_nested : (names : Names) (m : EvaluationState) (act : Act) (fields : _) → IsNested names m (with_act act (with_state (with_fields fields m.state) m))
@@ -339,8 +356,10 @@ module _ (c : Setting) (mesh_is : IsMesh (length c.mesh.points) (corner_lists c.
   spot_matches : (names : Names) (spot : Spot) (how : How) (n : ℤ) (m : EvaluationState) (a : Activation) → known_mode c (OfField spot.field) ≡ Some (mode_by how) → Agrees c names m a → (value : Option ℤ)
       → Matches c Same (Agrees c names) names m (assign_spot spot how n value m).after a (record { spot = spot; mode = mode_by how; value = operand how n } ∷ []) (assign_spot spot how n value m).answer (Ok (tt {0}))
   spot_matches names spot how n m a mode r (Some old) = (
-    tt, written_agrees names spot how n old m a mode r,
-    written_nested names m (record { spot = spot; mode = mode_by how; value = operand how n }) (with_value spot (assigned_value how old n) m.state.fields), refl,
+    tt,
+    written_agrees names spot how n old m a mode r,
+    written_nested names m (record { spot = spot; mode = mode_by how; value = operand how n }) (with_value spot (assigned_value how old n) m.state.fields),
+    refl,
   )
   spot_matches names spot how n m a mode r None = tt
 
@@ -373,7 +392,9 @@ module _ (c : Setting) (mesh_is : IsMesh (length c.mesh.points) (corner_lists c.
       → Statements names names (statement_meaning c.mesh c.globals (Assign place name None how value)) (resolved.statement_execution c.mesh made)
       → StatementFollows names frame (Assign place name None how value) made names (with_accesses later frame)
   name_follows names frame place name how value made later w fit f = record {
-    accesses = w; extends = extends_itself names; follows = f;
+    accesses = w;
+    extends = extends_itself names;
+    follows = f;
   }
 
   abbrev scalar_made : Frame → ℕ → How → NumberCode × Accesses → Result Assigned ProgramFault
@@ -384,12 +405,15 @@ module _ (c : Setting) (mesh_is : IsMesh (length c.mesh.points) (corner_lists c.
       → IfOk (IsAssignment names frame (Assign place name None how value)) (in_sequence (resolved_number names later value) (scalar_made frame scalar how))
   scalar_assignment_code names frame place name how value scalar here later is known =
       ok_then (IsNumberCode names later value) (IsAssignment names frame (Assign place name None how value)) (resolved_number names later value) (scalar_made frame scalar how) (number_code names later value)
-      (λ operand h. (record { numbers = omega arith; elements = omega arith }, λ fit within.
-      let operand_is = h within.accesses in
-      let mode = known operand_is.0 in
-      name_follows names frame place name how value (statement_code.Scalar scalar how operand.0) operand.1 mode.0 fit
-      (rw (assign_scalar_is c.mesh scalar how operand.0) (simulates_then {next = λ n m. assign_name name how n (local_bound_to m name) (binding_of c.globals name) m} (extends_itself names) operand_is.1
-      (λ n k e. scalar_step names name how scalar here is mode.1 n k e)))))
+      (λ operand h. (
+        record { numbers = omega arith; elements = omega arith },
+        λ fit within.
+            let operand_is = h within.accesses in
+            let mode = known operand_is.0 in
+            name_follows names frame place name how value (statement_code.Scalar scalar how operand.0) operand.1 mode.0 fit
+            (rw (assign_scalar_is c.mesh scalar how operand.0) (simulates_then {next = λ n m. assign_name name how n (local_bound_to m name) (binding_of c.globals name) m} (extends_itself names) operand_is.1
+            (λ n k e. scalar_step names name how scalar here is mode.1 n k e))),
+      ))
 
   abbrev local_made : Frame → ℕ → How → NumberCode × Accesses → Result Assigned ProgramFault
   local_made frame slot how operand = Ok (statement_code.Local slot how operand.0, with_accesses operand.1 frame)
@@ -401,11 +425,14 @@ module _ (c : Setting) (mesh_is : IsMesh (length c.mesh.points) (corner_lists c.
   name_assignment_code names frame place name how value (Some (resolution.Element slot kind)) here = tt
   name_assignment_code names frame place name how value (Some (resolution.Number slot)) here =
       ok_then (IsNumberCode names frame.accesses value) (IsAssignment names frame (Assign place name None how value)) (resolved_number names frame.accesses value) (local_made frame slot how)
-      (number_code names frame.accesses value) (λ operand h. (record { numbers = omega arith; elements = omega arith }, λ fit within.
-      let operand_is = h within.accesses in
-      name_follows names frame place name how value (statement_code.Local slot how operand.0) operand.1 operand_is.0 fit
-      (rw (assign_local_is c.mesh slot how operand.0) (simulates_then {next = λ n m. assign_name name how n (local_bound_to m name) (binding_of c.globals name) m} (extends_itself names) operand_is.1
-      (λ n k e. local_step names frame name how slot here fit within.numbers n k e)))))
+      (number_code names frame.accesses value) (λ operand h. (
+        record { numbers = omega arith; elements = omega arith },
+        λ fit within.
+            let operand_is = h within.accesses in
+            name_follows names frame place name how value (statement_code.Local slot how operand.0) operand.1 operand_is.0 fit
+            (rw (assign_local_is c.mesh slot how operand.0) (simulates_then {next = λ n m. assign_name name how n (local_bound_to m name) (binding_of c.globals name) m} (extends_itself names) operand_is.1
+            (λ n k e. local_step names frame name how slot here fit within.numbers n k e))),
+      ))
   name_assignment_code names frame place name Set value (Some (resolution.Scalar scalar)) here = tt
   name_assignment_code names frame place name (Fold op) value (Some (resolution.Scalar scalar)) here =
       ok_then (λ later. Within c later → Within c frame.accesses × (known_mode c (OfScalar scalar) ≡ Some (mode_by (Fold op)))) (IsAssignment names frame (Assign place name None (Fold op) value))
@@ -426,16 +453,20 @@ module _ (c : Setting) (mesh_is : IsMesh (length c.mesh.points) (corner_lists c.
       → IfOk (IsAssignment names frame (Assign place name (Some target) how value)) (in_sequence (resolved_number names later value) (field_made frame place field how x))
   field_value_code names frame place name target how value field kind other x later here known =
       ok_then (IsNumberCode names later value) (IsAssignment names frame (Assign place name (Some target) how value)) (resolved_number names later value) (field_made frame place field how x) (number_code names later value)
-      (λ operand h. (record { numbers = omega arith; elements = omega arith }, λ fit within.
-      let operand_is = h within.accesses in
-      let target_is = known operand_is.0 in
-      record {
-        accesses = target_is.0; extends = extends_itself names;
-        follows = rw (assign_field_is c.mesh place field how x operand.0)
-            (simulates_then {next = λ n. and_then (element_in c.mesh c.globals target) (λ y. assign_field place how (binding_of c.globals name) n y)} (extends_itself names) operand_is.1 (λ n k e.
-            simulates_then {next = λ y. assign_field place how (binding_of c.globals name) n y} (extends_itself names) target_is.2
-            (λ y z f. field_step names place name how field kind here target_is.1 n k e y z f.0)));
-      }))
+      (λ operand h. (
+        record { numbers = omega arith; elements = omega arith },
+        λ fit within.
+            let operand_is = h within.accesses in
+            let target_is = known operand_is.0 in
+            record {
+              accesses = target_is.0;
+              extends = extends_itself names;
+              follows = rw (assign_field_is c.mesh place field how x operand.0)
+                  (simulates_then {next = λ n. and_then (element_in c.mesh c.globals target) (λ y. assign_field place how (binding_of c.globals name) n y)} (extends_itself names) operand_is.1 (λ n k e.
+                  simulates_then {next = λ y. assign_field place how (binding_of c.globals name) n y} (extends_itself names) target_is.2
+                  (λ y z f. field_step names place name how field kind here target_is.1 n k e y z f.0)));
+            },
+      ))
 
   abbrev field_access : Names → Frame → Place → ℕ → How → Expression → Accesses → ElementCode → Result Assigned ProgramFault
   field_access names frame place field how value mid x =
@@ -498,7 +529,8 @@ module _ (c : Setting) (mesh_is : IsMesh (length c.mesh.points) (corner_lists c.
         let first_is = f.1 (with_fit mid fit) (within_earlier second_is.accesses g.0 within) in
         let test_is = h first_is.accesses in
         record {
-          accesses = test_is.0; extends = extends_itself names;
+          accesses = test_is.0;
+          extends = extends_itself names;
           follows = rw (if_is c.mesh x one.0 two.0) (simulates_then {next = λ b. if_then_else b (in_block (body_meaning c.mesh c.globals first)) (in_block (body_meaning c.mesh c.globals second))} (extends_itself names) test_is.1
               (λ b d e. subst (λ d. Statements names names (if_then_else b (in_block (body_meaning c.mesh c.globals first)) (in_block (body_meaning c.mesh c.globals second)))
               (code.if_then_else d (resolved.body_execution c.mesh one.0) (resolved.body_execution c.mesh two.0))) e
@@ -516,7 +548,8 @@ module _ (c : Setting) (mesh_is : IsMesh (length c.mesh.points) (corner_lists c.
         let body_is = f.1 (with_fit mid fit) within in
         let test_is = h body_is.accesses in
         record {
-          accesses = test_is.0; extends = extends_itself names;
+          accesses = test_is.0;
+          extends = extends_itself names;
           follows = rw (while_is c.mesh place x block.0) (simulates_loop place Spent test_is.1 (block_follows names (with_accesses mid frame) body block.0 block.1 body_is));
         },
   )
@@ -599,7 +632,8 @@ module _ (c : Setting) (mesh_is : IsMesh (length c.mesh.points) (corner_lists c.
         let body_is = f.1 (element_fits names (with_accesses mid frame) name (kind_of set) new fit' (with_element (kind_of set) (with_accesses mid frame)) refl refl) within in
         let arg_is = h body_is.accesses in
         record {
-          accesses = arg_is.0; extends = extends_itself names;
+          accesses = arg_is.0;
+          extends = extends_itself names;
           follows = rw (for_is c.mesh (length frame.elements) set set_at x block.0)
               (simulates_then {next = λ y. for_each_member c.mesh set_at (λ member. and_then (modify (state.with_element name member)) (λ done. body_meaning c.mesh c.globals body)) (members c.mesh set) y}
               (extends_itself names) (element_alone c names arg_is.1)
@@ -661,7 +695,9 @@ module _ (c : Setting) (mesh_is : IsMesh (length c.mesh.points) (corner_lists c.
   no_more names frame done = (
     grows_itself frame,
     λ fit within. record {
-      accesses = within.accesses; new = []; is = sym (append-nil done);
+      accesses = within.accesses;
+      new = [];
+      is = sym (append-nil done);
       follows = record { at = λ m a r. (tt, record { later = names; extends = extends_itself names; agrees = r }, nested_itself names m, sym (append-nil m.acts)) };
     },
   )

@@ -1,5 +1,5 @@
 -- Declarations and assignments keep names and slots in agreement.
-use Rattle.std.proofs.Common.{◌≡◌, ◌≢◌, ◌<◌, ◌≤◌, ◌+◌, ℕ, suc, Bool, true, false, cond, List, [], ◌∷◌, ◌++◌, map, length, get_or, refl, sym, ap, subst, ◌∙◌, inl, inr, arith, ne_eqb, eqb-true}
+use Rattle.std.proofs.Common.{◌≡◌, ◌≢◌, ◌<◌, ◌≤◌, ◌+◌, ℕ, Bool, true, false, cond, List, [], ◌∷◌, ◌++◌, map, length, get_or, refl, sym, ap, subst, ◌∙◌, inl, inr, arith, eqb-true}
 use Rattle.std.proofs.lemmas.Bool.{cases_Bool}
 use Rattle.std.proofs.lemmas.List.{get_or-set_same, get_or-set_other, length-set, length-append}
 use Rattle.std.proofs.lemmas.Slice.Eq.{bytes_eq-Decides}
@@ -10,19 +10,16 @@ use Rattle.std.specs.Str.{bytes_eq}
 use Rattle.liszt_base.specs.declared.accesses.Spot.{Spot}
 use Rattle.liszt_base.specs.declared.elements.Elem.{Elem}
 use Rattle.liszt_base.specs.declared.elements.Kind.{Kind}
-use Rattle.liszt_tree.specs.declared.tree.How.{How}
 use Rattle.topo_operators.specs.Operands.{IsNilOrElement}
 use Rattle.phase_types.specs.declared.resolution.Resolution.{Resolution}
 use Rattle.phase_types.specs.declared.resolution.Resolution.TheVariants as resolution
 use Rattle.phase_types.specs.Environments.{lookup}
 use Rattle.phase_types.specs.declared.frame.Frame.{Frame}
 use Rattle.phase_types.specs.Resolve.{Names, resolution_of}
-use Rattle.code_eval.specs.Executions as code
 use Rattle.code_eval.specs.Meaning as resolved
 use Rattle.code_eval.specs.declared.activation.Activation.{Activation}
-use Rattle.kernel_eval.specs.Outcomes.{modify}
 use Rattle.kernel_eval.specs.States.{Fields, value_in, with_value, updated_entry, update_first, map_update, EvaluationState, local_bound_to, element_bound_to, with_local, with_element, with_local_value}
-use Rattle.kernel_eval.proofs.SimulationLemmas.{Setting, NameAgrees, Agrees, Extends, IsNested, keys, Simulates, Same}
+use Rattle.kernel_eval.proofs.SimulationLemmas.{Setting, NameAgrees, Agrees, Extends, IsNested, keys}
 
 -- NAMES with one more
 pub kept_name : (names : Names) (entry : List ℕ × Resolution) (name : List ℕ) (r : Resolution) → resolution_of names name ≡ Some r → resolution_of (names ++ entry ∷ []) name ≡ Some r
@@ -180,8 +177,14 @@ module _ (c : Setting) (names : Names) (frame : Frame) (name : List ℕ) (new : 
 
     pub number_declared : Agrees c number_later (with_local name n m) (resolved.with_number frame.numbers n a)
     number_declared = record {
-      elem = r.elem; turns = r.turns; named = number_named; fields = r.fields; scalars = r.scalars; partials = r.partials;
-      numbers_room = length-set a.numbers frame.numbers n ∙ r.numbers_room; elements_room = r.elements_room;
+      elem = r.elem;
+      turns = r.turns;
+      named = number_named;
+      fields = r.fields;
+      scalars = r.scalars;
+      partials = r.partials;
+      numbers_room = length-set a.numbers frame.numbers n ∙ r.numbers_room;
+      elements_room = r.elements_room;
     }
 
   -- a declaration of an element
@@ -218,7 +221,7 @@ module _ (c : Setting) (names : Names) (frame : Frame) (name : List ℕ) (new : 
       go None is =
           let old : (local_bound_to m other ≡ None) × (element_bound_to m other ≡ None) = subst (NameAgrees c a other (local_bound_to m other) (element_bound_to m other)) is (r.named other) in
           let there : get_or (slice_set a.elements (length frame.elements) x) (length frame.elements) None ≡ x =
-              get_or-set_same a.elements (length frame.elements) x None (omega (arith, room, r.elements_room)) in
+          get_or-set_same a.elements (length frame.elements) x None (omega (arith, room, r.elements_room)) in
           elim (cases_Bool (bytes_eq other name)) [
             | inl same ↦
                 subst (ElementAgrees other (element_bound_to (with_element name x m) other)) (sym (added_name names (name, resolution.Element (length frame.elements) kind) other true is same))
@@ -231,8 +234,14 @@ module _ (c : Setting) (names : Names) (frame : Frame) (name : List ℕ) (new : 
 
     pub element_declared : Agrees c element_later (with_element name x m) (resolved.with_element (length frame.elements) x a)
     element_declared = record {
-      elem = r.elem; turns = r.turns; named = element_named; fields = r.fields; scalars = r.scalars; partials = r.partials;
-      numbers_room = r.numbers_room; elements_room = length-set a.elements (length frame.elements) x ∙ r.elements_room;
+      elem = r.elem;
+      turns = r.turns;
+      named = element_named;
+      fields = r.fields;
+      scalars = r.scalars;
+      partials = r.partials;
+      numbers_room = r.numbers_room;
+      elements_room = length-set a.elements (length frame.elements) x ∙ r.elements_room;
     }
 
 -- AN ASSIGNMENT to a local number
@@ -298,8 +307,14 @@ module _ (c : Setting) (names : Names) (frame : Frame) (name : List ℕ) (slot :
 
   pub local_assigned : Agrees c names (with_local_value name n m) (resolved.with_number slot n a)
   local_assigned = record {
-    elem = r.elem; turns = r.turns; named = assigned_named; fields = r.fields; scalars = r.scalars; partials = r.partials;
-    numbers_room = length-set a.numbers slot n ∙ r.numbers_room; elements_room = r.elements_room;
+    elem = r.elem;
+    turns = r.turns;
+    named = assigned_named;
+    fields = r.fields;
+    scalars = r.scalars;
+    partials = r.partials;
+    numbers_room = length-set a.numbers slot n ∙ r.numbers_room;
+    elements_room = r.elements_room;
   }
 
 pub assigned_nested : (names : Names) (name : List ℕ) (n : ℤ) (m : EvaluationState) → IsNested names m (with_local_value name n m)

@@ -1,5 +1,5 @@
 -- The iterations of resolved code: the activation and the values with which one begins, and what its execution does. This project's own.
-use Rattle.std.specs.Prelude.{◌≡◌, ℕ, false, Option, Some, None, length, get_or, ℤ, pos}
+use Rattle.std.specs.Prelude.{◌≡◌, ℕ, false, Some, None, length, get_or, ℤ, pos}
 use Rattle.liszt_base.specs.MeshLists.{MeshLists}
 use Rattle.liszt_base.specs.declared.accesses.Mode.TheVariants.{Read}
 use Rattle.liszt_base.specs.declared.accesses.Spot.{Spot}
