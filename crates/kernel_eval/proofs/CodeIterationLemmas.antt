@@ -94,7 +94,7 @@ module _ (mesh : MeshLists) (c : Comprehension) (code : ComprehensionCode) (is :
       mesh = mesh;
       globals = c.environment;
       view = values;
-      accesses = code.accesses;
+      accesses = code.accesses; scalars = a.scalars;
       partials = a.partials;
       numbers = length a.numbers;
       elements = length a.elements;
@@ -151,6 +151,7 @@ module _ (mesh : MeshLists) (c : Comprehension) (code : ComprehensionCode) (is :
       fields = λ spot value known declared found. sym (read.read spot value (sym (is.modes (OfField spot.field)) ∙ known) declared found);
       scalars = λ scalar value known found. sym (ready.scalars scalar value (sym (is.modes (OfScalar scalar)) ∙ known) found);
       partials = refl;
+      kept = refl;
       numbers_room = refl;
       elements_room = refl;
     }
@@ -163,11 +164,17 @@ module _ (mesh : MeshLists) (c : Comprehension) (code : ComprehensionCode) (is :
       acts = sym h.3 ∙ ap (λ m. m.acts) e;
       end = ap end_of f;
       partials = h.1.agrees.partials ∙ ap (λ m. partials_after a.partials m.folds) e;
+      scalars = h.1.agrees.kept;
+      numbers = h.1.agrees.numbers_room;
+      elements = h.1.agrees.elements_room;
     }
     finished m after made (Err (Trapped t)) (Err (Trapped u)) e f has h = record {
       acts = sym h.2 ∙ ap (λ m. m.acts) e;
       end = ap (λ trap. end_of (as_stop trap)) (sym h.0) ∙ ap end_of f;
-      partials = h.1 ∙ ap (λ m. partials_after a.partials m.folds) e;
+      partials = h.1.partials ∙ ap (λ m. partials_after a.partials m.folds) e;
+      scalars = h.1.kept;
+      numbers = h.1.numbers_room;
+      elements = h.1.elements_room;
     } where
       as_stop : Trap → Result Done Stop
       as_stop trap = Err (Trapped trap)

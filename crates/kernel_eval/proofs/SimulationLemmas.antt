@@ -38,6 +38,7 @@ pub record Setting : Type 0 where
   pub globals : Environment
   pub view : Spot → ℤ
   pub accesses : List AccessAt
+  pub scalars : List ℤ
   pub partials : List ℤ
   pub numbers : ℕ
   pub elements : ℕ
@@ -64,8 +65,19 @@ pub record Agrees (c : Setting) (names : Names) (m : EvaluationState) (a : Activ
   pub scalars : (scalar : ℕ) (value : ℤ) → known_mode c (OfScalar scalar) ≡ Some Read → scalar_value m.state scalar ≡ Some value
       → value ≡ get_or a.scalars scalar (pos 0)
   pub partials : a.partials ≡ partials_after c.partials m.folds
+  pub kept : a.scalars ≡ c.scalars
   pub numbers_room : length a.numbers ≡ c.numbers
   pub elements_room : length a.elements ≡ c.elements
+
+-- what an activation keeps, also at a trap
+pub record Keeps (c : Setting) (m : EvaluationState) (a : Activation) : Type 0 where
+  pub partials : a.partials ≡ partials_after c.partials m.folds
+  pub kept : a.scalars ≡ c.scalars
+  pub numbers_room : length a.numbers ≡ c.numbers
+  pub elements_room : length a.elements ≡ c.elements
+
+pub keeps : {c : Setting} {names : Names} {m : EvaluationState} {a : Activation} → Agrees c names m a → Keeps c m a
+keeps r = record { partials = r.partials; kept = r.kept; numbers_room = r.numbers_room; elements_room = r.elements_room }
 
 -- NESTING: the bindings of a state are those of an earlier one, after bindings of names that were not visible there.
 abbrev pub keys : {V : Type 0} → List (List ℕ × V) → List (List ℕ)
@@ -125,7 +137,7 @@ Related = EvaluationState → Activation → Type 0
 abbrev pub Matches : {A B : Type 0} → Setting → (A → B → Type 0) → Related → Names → EvaluationState → EvaluationState → Activation → List Act
     → Result A Stop → Result B Stop → Type 0
 Matches c V S names before m a acts (Ok x) (Ok y) = V x y × S m a × IsNested names before m × (m.acts ≡ before.acts ++ acts)
-Matches c V S names before m a acts (Err (Trapped trap)) (Err (Trapped other)) = (trap ≡ other) × (a.partials ≡ partials_after c.partials m.folds) × (m.acts ≡ before.acts ++ acts)
+Matches c V S names before m a acts (Err (Trapped trap)) (Err (Trapped other)) = (trap ≡ other) × Keeps c m a × (m.acts ≡ before.acts ++ acts)
 Matches c V S names before m a acts (Err NoMeaning) answer = Unit {0}
 Matches c V S names before m a acts _ _ = ⊥
 
@@ -174,7 +186,7 @@ simulates_value {names = names} v = record { at = λ m a r. (v, r, nested_itself
 
 pub simulates_trap : {A B : Type 0} {c : Setting} {V : A → B → Type 0} {S : Related} {names later : Names} (kind : TrapKind) (place : Place)
     → Simulates c V (Agrees c names) S later (trap kind place) (code.trap kind place)
-simulates_trap kind place = record { at = λ m a r. (ap (λ x. record { kind = kind; place = place; elem = x }) r.elem, r.partials, sym (append-nil m.acts)) }
+simulates_trap kind place = record { at = λ m a r. (ap (λ x. record { kind = kind; place = place; elem = x }) r.elem, record { partials = r.partials; kept = r.kept; numbers_room = r.numbers_room; elements_room = r.elements_room }, sym (append-nil m.acts)) }
 
 -- a change of both
 abbrev pub Same : Unit {0} → Unit {0} → Type 0
@@ -211,7 +223,7 @@ module _ {c : Setting} {names : Names} (place : Place) (kind : TrapKind) {test :
     fields = r.fields;
     scalars = r.scalars;
     partials = r.partials;
-    numbers_room = r.numbers_room;
+    kept = r.kept; numbers_room = r.numbers_room;
     elements_room = r.elements_room;
   }
 
@@ -362,7 +374,7 @@ module _ {names : Names} {before m : EvaluationState} (nested : IsNested names b
     fields = h.fields;
     scalars = h.scalars;
     partials = h.partials;
-    numbers_room = h.numbers_room;
+    kept = h.kept; numbers_room = h.numbers_room;
     elements_room = h.elements_room;
   }
 
