@@ -17,9 +17,11 @@ pub mod ReductionLemmas
 pub mod ResolvedExpressionLemmas
 pub mod ResolvedStatementLemmas
 pub mod ResolvingLemmas
+pub mod RunningLemmas
 pub mod ScalarAccessLemmas
 pub mod ShapeLemmas
 pub mod SimulationLemmas
+pub mod SlotCountLemmas
 pub mod SlotLemmas
 pub mod TraversalLemmas
 pub mod TripleLemmas

@@ -6,4 +6,5 @@ pub mod Iterations
 pub mod Meaning
 pub mod Outcomes
 pub mod Preservation
+pub mod Running
 pub mod States

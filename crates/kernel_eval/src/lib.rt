@@ -1,5 +1,12 @@
-//! The meaning of the bodies of comprehensions. So far definitions, with worked cases and laws.
+//! The meaning of expressions, of the bodies of comprehensions and of their iterations, with its laws; and the iterations of checked
+//! programs over any store of words.
 #![tactic(auto)]
 
 mod cases;
+mod iteration;
 pub mod laws;
+mod locals;
+
+pub use code_eval::Words;
+pub use iteration::run_iteration;
+pub use locals::Locals;

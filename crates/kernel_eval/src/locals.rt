@@ -1,0 +1,104 @@
+//! What iterations work with.
+
+ghost use Rattle.std.specs.Prelude.{◌≡◌, ◌<◌, ◌≤◌, ℕ, IfOk, Some, get_or, length, pos, slice_get};
+ghost use Rattle.resolved_code.specs.declared.items.ComprehensionCode.{ComprehensionCode as CodeOf};
+ghost use Rattle.kernel_eval.specs.Running.{HasBegun, IsPrepared};
+
+use code_eval::Activation;
+use liszt_base::{identity, Elem, Kind, Mode, NoMemory, Place, Trap, TrapKind};
+use phase_types::Checked;
+use resolved_code::ComprehensionCode;
+use sqlite_items::Items;
+use std::alloc::Global;
+
+/// The slots, scalars and partials with which the iterations of a checked program run.
+#[derive(Debug, Drop)]
+pub struct Locals {
+    pub activation: Activation,
+}
+
+/// The greatest number of number slots of a comprehension.
+fn most_numbers(codes: &[ComprehensionCode]) -> u32
+    ensures { (k : ℕ) (code : CodeOf) → slice_get codes.now k ≡ Some code → code.numbers ≤ result }
+{
+    let mut most = 0;
+    for code in codes {
+        if most < code.numbers {
+            most = code.numbers;
+        }
+    }
+    most
+}
+
+/// The greatest number of element slots of a comprehension, at least 1.
+fn most_elements(codes: &[ComprehensionCode]) -> usize
+    ensures most { (k : ℕ) (code : CodeOf) → slice_get codes.now k ≡ Some code
+        → length code.elements ≤ result }
+    ensures room { 0 < result }
+{
+    let mut most = 1;
+    for code in codes {
+        if most < code.elements.len() {
+            most = code.elements.len();
+        }
+    }
+    most
+}
+
+/// A list of zeros.
+fn zeros(alloc: Global, count: usize) -> Result<Items<i64>, NoMemory>
+    ensures { IfOk result (λ list. length list ≡ count) }
+{
+    let mut list = Items::new(alloc);
+    while list.len() < count {
+        list.push(0)?;
+    }
+    Ok(list)
+}
+
+/// A list of nils.
+fn nils(alloc: Global, count: usize) -> Result<Items<Option<Elem>>, NoMemory>
+    ensures { IfOk result (λ list. length list ≡ count) }
+{
+    let mut list = Items::new(alloc);
+    while list.len() < count {
+        list.push(None)?;
+    }
+    Ok(list)
+}
+
+impl Locals {
+    /// Locals for a checked program, or out of memory.
+    pub fn prepare(alloc: Global, c: &Checked) -> Result<Locals, NoMemory>
+        ensures { IfOk result (λ l. IsPrepared c.now l.activation) }
+    {
+        let scalars = c.scalars().len();
+        Ok(Locals {
+            activation: Activation {
+                numbers: zeros(alloc, most_numbers(c.comprehensions()) as usize)?,
+                elements: nils(alloc, most_elements(c.comprehensions()))?,
+                scalars: zeros(alloc, scalars)?,
+                partials: zeros(alloc, scalars)?,
+                turns: 0,
+                elem: Elem {
+                    kind: Kind::Vertex,
+                    id: 0,
+                    flipped: false,
+                },
+                trap: Trap {
+                    kind: TrapKind::Spent,
+                    place: Place { line: 1, col: 1 },
+                    elem: None,
+                },
+            },
+        })
+    }
+
+    /// The partial of a scalar of the program: what the iterations since `begin` reduce it by.
+    pub fn partial(&self, scalar: u32) -> i64
+        requires { scalar < length self.now.activation.partials }
+        ensures { result ≡ get_or self.now.activation.partials scalar (pos 0) }
+    {
+        self.activation.partials.as_slice()[scalar as usize]
+    }
+}
