@@ -94,7 +94,8 @@ module _ (mesh : MeshLists) (c : Comprehension) (code : ComprehensionCode) (is :
       mesh = mesh;
       globals = c.environment;
       view = values;
-      accesses = code.accesses; scalars = a.scalars;
+      accesses = code.accesses;
+      scalars = a.scalars;
       partials = a.partials;
       numbers = length a.numbers;
       elements = length a.elements;

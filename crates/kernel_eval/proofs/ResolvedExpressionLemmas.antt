@@ -181,7 +181,8 @@ module _ (c : Setting) (names : Names) where
     fields = r.fields;
     scalars = r.scalars;
     partials = r.partials;
-    kept = r.kept; numbers_room = r.numbers_room;
+    kept = r.kept;
+    numbers_room = r.numbers_room;
     elements_room = r.elements_room;
   }
 

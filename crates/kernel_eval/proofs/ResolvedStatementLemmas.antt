@@ -276,7 +276,8 @@ module _ (c : Setting) (mesh_is : IsMesh (length c.mesh.points) (corner_lists c.
     partials =
         ap₂ (λ s v. slice_set a.partials s v) (sym is) (sym (ap (λ s. fold folded.op (get_or a.partials s (pos 0)) folded.value) is ∙ value))
         ∙ ap (λ partials. partials_after_fold partials folded) r.partials ∙ sym (one_more_fold c.partials m.folds folded);
-    kept = r.kept; numbers_room = r.numbers_room;
+    kept = r.kept;
+    numbers_room = r.numbers_room;
     elements_room = r.elements_room;
   }
 
@@ -346,7 +347,8 @@ module _ (c : Setting) (mesh_is : IsMesh (length c.mesh.points) (corner_lists c.
         r.fields other value known declared (sym (other_field spot other (assigned_value how old n) m.state.fields (other_than_written spot.field other.field (mode_by how) mode (not_read how) known)) ∙ found);
     scalars = r.scalars;
     partials = r.partials;
-    kept = r.kept; numbers_room = r.numbers_room;
+    kept = r.kept;
+    numbers_room = r.numbers_room;
     elements_room = r.elements_room;
   }
 

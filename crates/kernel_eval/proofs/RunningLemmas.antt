@@ -105,14 +105,13 @@ module _ (checked : CheckedProgram) (k : ℕ) (code : ComprehensionCode) (is : s
       scalars = ap (λ (a : Activation). a.scalars) (sym after_is) ∙ does.scalars;
     }
 
-
     pub still_prepared : IsPrepared checked after
     still_prepared =
         let numbers : length after.numbers ≡ length a.numbers = ap (λ (a : Activation). length a.numbers) (sym after_is) ∙ does.numbers in
         let elements : length after.elements ≡ length a.elements =
-            ap (λ (a : Activation). length a.elements) (sym after_is) ∙ does.elements ∙ length-set a.elements 0 (Some (unflipped code.over id)) in
+        ap (λ (a : Activation). length a.elements) (sym after_is) ∙ does.elements ∙ length-set a.elements 0 (Some (unflipped code.over id)) in
         let partials : length after.partials ≡ length a.partials =
-            ap (λ (a : Activation). length a.partials) (sym after_is) ∙ ap length does.partials ∙ partials_length a.partials (iteration mesh can.comprehension turns can.state id).after.folds in
+        ap (λ (a : Activation). length a.partials) (sym after_is) ∙ ap length does.partials ∙ partials_length a.partials (iteration mesh can.comprehension turns can.state id).after.folds in
         record {
           numbers = λ j other found. omega (arith, prepared.numbers j other found, numbers);
           elements = λ j other found. omega (arith, prepared.elements j other found, elements);

@@ -223,7 +223,8 @@ module _ {c : Setting} {names : Names} (place : Place) (kind : TrapKind) {test :
     fields = r.fields;
     scalars = r.scalars;
     partials = r.partials;
-    kept = r.kept; numbers_room = r.numbers_room;
+    kept = r.kept;
+    numbers_room = r.numbers_room;
     elements_room = r.elements_room;
   }
 
@@ -374,7 +375,8 @@ module _ {names : Names} {before m : EvaluationState} (nested : IsNested names b
     fields = h.fields;
     scalars = h.scalars;
     partials = h.partials;
-    kept = h.kept; numbers_room = h.numbers_room;
+    kept = h.kept;
+    numbers_room = h.numbers_room;
     elements_room = h.elements_room;
   }
 

@@ -183,7 +183,8 @@ module _ (c : Setting) (names : Names) (frame : Frame) (name : List ℕ) (new : 
       fields = r.fields;
       scalars = r.scalars;
       partials = r.partials;
-      kept = r.kept; numbers_room = length-set a.numbers frame.numbers n ∙ r.numbers_room;
+      kept = r.kept;
+      numbers_room = length-set a.numbers frame.numbers n ∙ r.numbers_room;
       elements_room = r.elements_room;
     }
 
@@ -240,7 +241,8 @@ module _ (c : Setting) (names : Names) (frame : Frame) (name : List ℕ) (new : 
       fields = r.fields;
       scalars = r.scalars;
       partials = r.partials;
-      kept = r.kept; numbers_room = r.numbers_room;
+      kept = r.kept;
+      numbers_room = r.numbers_room;
       elements_room = length-set a.elements (length frame.elements) x ∙ r.elements_room;
     }
 
@@ -313,7 +315,8 @@ module _ (c : Setting) (names : Names) (frame : Frame) (name : List ℕ) (slot :
     fields = r.fields;
     scalars = r.scalars;
     partials = r.partials;
-    kept = r.kept; numbers_room = length-set a.numbers slot n ∙ r.numbers_room;
+    kept = r.kept;
+    numbers_room = length-set a.numbers slot n ∙ r.numbers_room;
     elements_room = r.elements_room;
   }
 

@@ -5,7 +5,7 @@ ghost use Rattle.kernel_eval.specs.Running.{CanIterate, HasIterated, IsPrepared}
 ghost use Rattle.kernel_eval.specs.Internal.Starts.{started};
 
 use crate::locals::Locals;
-use code_eval::{run_body, Activation, Words};
+use code_eval::{Activation, Words, run_body};
 use liszt_base::{Elem, RunEnd};
 use mesh_topology::Mesh;
 use phase_types::Checked;

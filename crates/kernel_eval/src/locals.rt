@@ -5,7 +5,7 @@ ghost use Rattle.resolved_code.specs.declared.items.ComprehensionCode.{Comprehen
 ghost use Rattle.kernel_eval.specs.Running.{HasBegun, IsPrepared};
 
 use code_eval::Activation;
-use liszt_base::{identity, Elem, Kind, Mode, NoMemory, Place, Trap, TrapKind};
+use liszt_base::{Elem, Kind, Mode, NoMemory, Place, Trap, TrapKind, identity};
 use phase_types::Checked;
 use resolved_code::ComprehensionCode;
 use sqlite_items::Items;
