@@ -34,3 +34,23 @@ default_turns = 1000000
 -- ranks of a run
 abbrev pub rank_limit : ℕ
 rank_limit = 16
+
+-- `print` statements of a run
+abbrev pub print_limit : ℕ
+print_limit = 65536
+
+-- words of all declared fields together
+abbrev pub word_limit : ℕ
+word_limit = 16777216
+
+-- visits that the inference of one comprehension takes, 2 to the 28th
+abbrev pub visit_limit : ℕ
+visit_limit = 268435456
+
+-- entries of one comprehension's stencils
+abbrev pub entry_limit : ℕ
+entry_limit = 16777216
+
+-- numbers that all comprehensions together keep, 2 to the 27th
+abbrev pub kept_limit : ℕ
+kept_limit = 134217728

@@ -95,17 +95,23 @@ pub struct PartsFault {
     pub line: u32,
 }
 
-/// What has a limit: the bytes of a file, the points and cells that a header names, and the tokens of a program.
+/// What has a limit: the bytes of a file, the points and cells that a header names, the tokens of a program, the
+/// visits and entries of a comprehension's stencils, by its number, the words of all declared fields, and the
+/// numbers that are kept for the comprehensions up to the one with this number.
 #[derive(Clone, Copy, Debug, PartialEq, Eq)]
 pub enum LimitWhat {
     File(Input),
     Points,
     Cells,
     Tokens,
+    Visits(u32),
+    Entries(u32),
+    Words,
+    Kept(u32),
 }
 
-/// Something past its limit: how many are allowed, and how many there are; of a file's bytes and of tokens at
-/// least one more than allowed, which is the number then.
+/// Something past its limit: how many are allowed, and how many there are. Of bytes, tokens, visits, entries and
+/// kept numbers there are at least one more than allowed, and that is the number then.
 #[derive(Clone, Copy, Debug, PartialEq, Eq)]
 pub struct LimitFault {
     pub what: LimitWhat,

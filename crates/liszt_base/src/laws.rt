@@ -2,12 +2,12 @@
 
 ghost use Rattle.std.specs.Prelude.{◌≡◌, ℕ, ℤ, ◌<◌, ◌^◌};
 ghost use Rattle.liszt_base.specs.declared.elements.Op.{Op};
-ghost use Rattle.liszt_base.specs.Limits.{file_limit, point_limit, cell_limit, token_limit, depth_limit, name_limit, turn_limit, default_turns, rank_limit};
+ghost use Rattle.liszt_base.specs.Limits.{file_limit, point_limit, cell_limit, token_limit, depth_limit, name_limit, turn_limit, default_turns, rank_limit, print_limit, word_limit, visit_limit, entry_limit, kept_limit};
 ghost use Rattle.liszt_base.specs.Reductions.{InRange, fold, identity_of, word, value};
 
 use crate::limits::{
-    CELL_LIMIT, DEFAULT_TURNS, DEPTH_LIMIT, FILE_LIMIT, NAME_LIMIT, POINT_LIMIT, RANK_LIMIT,
-    TOKEN_LIMIT, TURN_LIMIT,
+    CELL_LIMIT, DEFAULT_TURNS, DEPTH_LIMIT, ENTRY_LIMIT, FILE_LIMIT, KEPT_LIMIT, NAME_LIMIT,
+    POINT_LIMIT, PRINT_LIMIT, RANK_LIMIT, TOKEN_LIMIT, TURN_LIMIT, VISIT_LIMIT, WORD_LIMIT,
 };
 
 /// Each reduction is commutative and associative, has its identity, and keeps numbers in range.
@@ -35,4 +35,9 @@ pub fn limits()
     ensures turns { TURN_LIMIT ≡ turn_limit }
     ensures default { DEFAULT_TURNS ≡ default_turns }
     ensures ranks { RANK_LIMIT ≡ rank_limit }
+    ensures prints { PRINT_LIMIT ≡ print_limit }
+    ensures words { WORD_LIMIT ≡ word_limit }
+    ensures visits { VISIT_LIMIT ≡ visit_limit }
+    ensures entries { ENTRY_LIMIT ≡ entry_limit }
+    ensures kept { KEPT_LIMIT ≡ kept_limit }
 {}

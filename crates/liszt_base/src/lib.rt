@@ -24,8 +24,8 @@ pub use answers::{
 pub use elements::{Elem, Kind, Op, SetName};
 pub use gate::{Gate, OpenGate};
 pub use limits::{
-    CELL_LIMIT, DEFAULT_TURNS, DEPTH_LIMIT, FILE_LIMIT, NAME_LIMIT, POINT_LIMIT, RANK_LIMIT,
-    TOKEN_LIMIT, TURN_LIMIT,
+    CELL_LIMIT, DEFAULT_TURNS, DEPTH_LIMIT, ENTRY_LIMIT, FILE_LIMIT, KEPT_LIMIT, NAME_LIMIT,
+    POINT_LIMIT, PRINT_LIMIT, RANK_LIMIT, TOKEN_LIMIT, TURN_LIMIT, VISIT_LIMIT, WORD_LIMIT,
 };
 pub use mesh::{CellList, Point, PointList, PointTable, RawCell, RawMesh};
 pub use plain_list::{ByteList, NumbersList, PlainList};

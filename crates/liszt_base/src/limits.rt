@@ -26,3 +26,18 @@ pub const DEFAULT_TURNS: u64 = 1_000_000;
 
 /// The greatest number of ranks of a run.
 pub const RANK_LIMIT: u32 = 16;
+
+/// The greatest number of `print` statements that a run executes.
+pub const PRINT_LIMIT: usize = 65_536;
+
+/// The greatest number of words of all declared fields together.
+pub const WORD_LIMIT: u32 = 16_777_216;
+
+/// The greatest number of visits that the inference of one comprehension takes.
+pub const VISIT_LIMIT: u32 = 268_435_456;
+
+/// The greatest number of entries of one comprehension's stencils.
+pub const ENTRY_LIMIT: u32 = 16_777_216;
+
+/// The greatest number of numbers that all comprehensions together keep.
+pub const KEPT_LIMIT: u32 = 134_217_728;

@@ -5,7 +5,7 @@ use Rattle.std.specs.Fmt.{decimal, signed_decimal}
 use Rattle.liszt_base.specs.declared.answers.Input.{Input}
 use Rattle.liszt_base.specs.declared.answers.Input.TheVariants.{Program, Node, Ele}
 use Rattle.liszt_base.specs.declared.answers.LimitWhat.{LimitWhat}
-use Rattle.liszt_base.specs.declared.answers.LimitWhat.TheVariants.{File, Points, Cells, Tokens}
+use Rattle.liszt_base.specs.declared.answers.LimitWhat.TheVariants.{File, Points, Cells, Tokens, Visits, Entries, Words, Kept}
 use Rattle.liszt_base.specs.declared.answers.MeshFault.{MeshFault}
 use Rattle.liszt_base.specs.declared.answers.MeshFile.{MeshFile}
 use Rattle.liszt_base.specs.declared.answers.MeshFile.TheVariants.{Node as InNode, Ele as InEle}
@@ -107,11 +107,19 @@ mesh_word CellTwice = codes "CellTwice"
 mesh_word FaceShared = codes "FaceShared"
 mesh_word TooMany = codes "TooMany"
 
+-- ` comp K`
+abbrev pub comprehension_text : ℕ → List ℕ
+comprehension_text comprehension = codes " comp " ++ decimal comprehension
+
 abbrev pub limit_word : LimitWhat → List ℕ
 limit_word (File input) = codes "File " ++ input_word input
 limit_word Points = codes "Points"
 limit_word Cells = codes "Cells"
 limit_word Tokens = codes "Tokens"
+limit_word (Visits comprehension) = codes "Visits" ++ comprehension_text comprehension
+limit_word (Entries comprehension) = codes "Entries" ++ comprehension_text comprehension
+limit_word Words = codes "Words"
+limit_word (Kept comprehension) = codes "Kept" ++ comprehension_text comprehension
 
 -- The line of a limit.
 abbrev pub limit_line : LimitWhat → ℕ → List ℕ

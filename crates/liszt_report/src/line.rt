@@ -1,6 +1,6 @@
 ghost use Rattle.std.specs.Prelude.{◌≡◌, ◌+◌, ◌<◌, ◌≤◌, ◌^◌, [], ◌++◌, length};
 ghost use Rattle.liszt_report.specs.declared.ended.Ended.TheVariants.{Program as OfProgram, Mesh as OfMesh};
-ghost use Rattle.liszt_report.specs.Endings.{ending_text, value_line, limit_line, limit_word, place_text};
+ghost use Rattle.liszt_report.specs.Endings.{ending_text, value_line, limit_line, limit_word, comprehension_text, place_text};
 
 use crate::ended::Ended;
 use crate::word::{input_word, mesh_file_word, mesh_word, program_word};
@@ -100,9 +100,9 @@ fn append_limit(line: &mut LineBuf, what: LimitWhat, allowed: u64)
 
 /// Appends the words for what has a limit.
 fn append_limit_word(line: &mut LineBuf, what: LimitWhat)
-    requires { length line.old ≤ 200 }
+    requires { length line.old ≤ 100 }
     ensures text { line.new ≡ line.old ++ limit_word what }
-    ensures short { length line.new ≤ length line.old + 12 }
+    ensures short { length line.new ≤ length line.old + 40 }
 {
     match what {
         LimitWhat::File(input) => {
@@ -112,5 +112,28 @@ fn append_limit_word(line: &mut LineBuf, what: LimitWhat)
         LimitWhat::Points => line.text(b"Points"),
         LimitWhat::Cells => line.text(b"Cells"),
         LimitWhat::Tokens => line.text(b"Tokens"),
+        LimitWhat::Visits(comprehension) => {
+            line.text(b"Visits");
+            append_comprehension(line, comprehension);
+        }
+        LimitWhat::Entries(comprehension) => {
+            line.text(b"Entries");
+            append_comprehension(line, comprehension);
+        }
+        LimitWhat::Words => line.text(b"Words"),
+        LimitWhat::Kept(comprehension) => {
+            line.text(b"Kept");
+            append_comprehension(line, comprehension);
+        }
     }
+}
+
+/// Appends ` comp K`.
+fn append_comprehension(line: &mut LineBuf, comprehension: u32)
+    requires { length line.old ≤ 110 }
+    ensures text { line.new ≡ line.old ++ comprehension_text comprehension }
+    ensures short { length line.new ≤ length line.old + 26 }
+{
+    line.text(b" comp ");
+    line.count(u64::from(comprehension));
 }

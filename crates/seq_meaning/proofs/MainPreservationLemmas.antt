@@ -5,6 +5,7 @@ use Rattle.liszt_base.specs.MeshLists.{MeshLists}
 use Rattle.liszt_base.specs.declared.answers.Place.{Place}
 use Rattle.liszt_base.specs.declared.answers.TrapKind.{TrapKind}
 use Rattle.liszt_base.specs.declared.answers.TrapKind.TheVariants.{Prints, Spent}
+use Rattle.liszt_base.specs.Limits.{print_limit}
 use Rattle.liszt_tree.specs.declared.tree.How.{How}
 use Rattle.liszt_tree.specs.Tree.{Expression, MainItem, MainField, MainVar, MainAssign, MainIf, MainWhile, MainFor, Print, Main, no_item, item}
 use Rattle.mesh_topology.specs.Elements.{count, numbers}
@@ -16,7 +17,7 @@ use Rattle.kernel_eval.specs.States.{State, scalar_value, with_scalar_value, mai
 use Rattle.kernel_eval.proofs.ComputationLemmas.{IsPreorder, keeps_then, keeps_if, skip_keeps, keeps_loop}
 use Rattle.kernel_eval.proofs.PreservationLemmas.{keeps_number_in, keeps_truth_in}
 use Rattle.kernel_eval.proofs.ActLemmas.{turns_kept}
-use Rattle.seq_meaning.specs.Runs.{print_limit, Event, FieldDeclared, ScopeOpened, ScopeClosed, ComprehensionReached, Progress, log_event, lift_state, in_program, number_at, truth_at, with_field, with_scalar, modify_state, assign_main_scalar, assign_main_name, print_number, after_scope, in_scope, program_turns, after_iteration, comprehension, restored_outcome, all_or_nothing, item_meaning, main_meaning}
+use Rattle.seq_meaning.specs.Runs.{Event, FieldDeclared, ScopeOpened, ScopeClosed, ComprehensionReached, Progress, log_event, lift_state, in_program, number_at, truth_at, with_field, with_scalar, modify_state, assign_main_scalar, assign_main_name, print_number, after_scope, in_scope, program_turns, after_iteration, comprehension, restored_outcome, all_or_nothing, item_meaning, main_meaning}
 use Rattle.seq_meaning.proofs.IterationLemmas.{for_each_unchanged}
 
 pub record IsStateKept (R : State → State → Type 0) : Type 0 where

@@ -5,6 +5,7 @@ use Rattle.std.specs.Prelude.{Option, Some, None, ℤ}
 use Rattle.liszt_base.specs.MeshLists.{MeshLists}
 use Rattle.liszt_base.specs.declared.answers.Place.{Place}
 use Rattle.liszt_base.specs.declared.answers.TrapKind.TheVariants.{Prints, Spent}
+use Rattle.liszt_base.specs.Limits.{print_limit}
 use Rattle.liszt_tree.specs.declared.tree.How.{How}
 use Rattle.liszt_tree.specs.Tree.{Expression, MainItem, MainField, MainVar, MainAssign, MainIf, MainWhile, MainFor, Print, Main, no_item, item}
 use Rattle.mesh_topology.specs.Elements.{count}
@@ -14,7 +15,7 @@ use Rattle.kernel_eval.specs.Meaning.{number_in, truth_in, trap}
 use Rattle.kernel_eval.specs.Outcomes.{Outcome}
 use Rattle.kernel_eval.specs.States.{State, EvaluationState, scalar_value}
 use Rattle.kernel_eval.proofs.CommutationLemmas.{changed, commutes_then, commutes_if, skip_commutes, commutes_loop}
-use Rattle.seq_meaning.specs.Runs.{print_limit, Event, FieldDeclared, ScopeOpened, ScopeClosed, ComprehensionReached, Entry, Progress, with_earlier_path, log_event, lift_state, in_program, number_at, truth_at, with_field, with_scalar, modify_state, assign_main_scalar, assign_main_name, print_number, after_scope, in_scope, program_turns, comprehension, all_or_nothing, item_meaning, main_meaning}
+use Rattle.seq_meaning.specs.Runs.{Event, FieldDeclared, ScopeOpened, ScopeClosed, ComprehensionReached, Entry, Progress, with_earlier_path, log_event, lift_state, in_program, number_at, truth_at, with_field, with_scalar, modify_state, assign_main_scalar, assign_main_name, print_number, after_scope, in_scope, program_turns, comprehension, all_or_nothing, item_meaning, main_meaning}
 
 module _ (path : List Entry) where
   abbrev earlier : Progress → Progress

@@ -11,6 +11,7 @@ use Rattle.liszt_base.specs.MeshLists.{MeshLists}
 use Rattle.liszt_base.specs.declared.answers.TrapKind.TheVariants.{Prints, Spent}
 use Rattle.liszt_base.specs.declared.answers.Place.{Place}
 use Rattle.liszt_base.specs.declared.elements.Kind.{Kind}
+use Rattle.liszt_base.specs.Limits.{print_limit}
 use Rattle.liszt_tree.specs.declared.tree.How.{How}
 use Rattle.liszt_tree.specs.Tree.{Expression, MainItem, MainIf, Main}
 use Rattle.mesh_topology.specs.Elements.{corner_lists, count, numbers}
@@ -28,7 +29,7 @@ use Rattle.kernel_eval.specs.States.{State, EvaluationState, scalar_value, main_
 use Rattle.kernel_eval.specs.Iterations.{iteration, end_of}
 use Rattle.kernel_eval.proofs.TypedEvaluationLemmas.{EndsIn, OutcomeEnds, Ends, ends_then, ends_if, EvaluationFits, at_first, Fits, number_ends, truth_ends, is_an_end, iteration_ends, iteration_fits}
 use Rattle.kernel_eval.proofs.ShapeLemmas.{still_fits, map_update_shape}
-use Rattle.seq_meaning.specs.Runs.{print_limit, Event, Progress, ScopeOpened, ScopeClosed, FieldDeclared, ComprehensionReached, log_event, lift_state, in_program, number_at, truth_at, with_field, with_scalar, modify_state, assign_main_scalar, assign_main_name, print_number, after_scope, in_scope, program_turns, after_iteration, comprehension, restored_outcome, all_or_nothing, item_meaning, main_meaning, empty, run, run_end}
+use Rattle.seq_meaning.specs.Runs.{Event, Progress, ScopeOpened, ScopeClosed, FieldDeclared, ComprehensionReached, log_event, lift_state, in_program, number_at, truth_at, with_field, with_scalar, modify_state, assign_main_scalar, assign_main_name, print_number, after_scope, in_scope, program_turns, after_iteration, comprehension, restored_outcome, all_or_nothing, item_meaning, main_meaning, empty, run, run_end}
 use Rattle.seq_meaning.proofs.StateShapeLemmas.{Grows, scope_like, grows_kept}
 use Rattle.seq_meaning.proofs.MainPreservationLemmas.{OfStates, main_keeps}
 

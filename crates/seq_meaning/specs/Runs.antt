@@ -2,6 +2,7 @@
 -- Supercomputing 2011).
 use Rattle.std.specs.Prelude.{ℕ, ◌-◌, nat_lt, Bool, Option, Some, None, List, [], ◌∷◌, ◌++◌, length, drop, reverse, replicate, ℤ, Result, Ok, Err}
 use Rattle.std.specs.List.{filter_map}
+use Rattle.liszt_base.specs.Limits.{print_limit}
 use Rattle.liszt_base.specs.MeshLists.{MeshLists}
 use Rattle.liszt_base.specs.declared.answers.Place.{Place}
 use Rattle.liszt_base.specs.declared.answers.RunEnd.{RunEnd}
@@ -94,10 +95,6 @@ assign_main_scalar how n number None = in_program no_meaning
 abbrev pub assign_main_name : How → ℤ → Option Binding → Computation Progress Done
 assign_main_name how n (Some (ScalarName number)) = λ p. assign_main_scalar how n number (scalar_value p.state number) p
 assign_main_name how n _ = in_program no_meaning
-
--- the greatest number of numbers that a run prints
-abbrev pub print_limit : ℕ
-print_limit = 65536
 
 abbrev pub print_number : Place → ℤ → Computation Progress Done
 print_number place n p =

@@ -9,11 +9,12 @@ ghost use Rattle.liszt_tree.specs.Tree.{no_item, nowhere};
 ghost use Rattle.liszt_tree.specs.Trees.{degrees};
 ghost use Rattle.liszt_base.specs.declared.accesses.Mode.TheVariants.{Read, Reduce};
 ghost use Rattle.liszt_base.specs.declared.elements.Op.TheVariants.{Add};
+ghost use Rattle.liszt_base.specs.Limits.{print_limit};
 ghost use Rattle.kernel_eval.specs.Iterations.{acts, end_of, iteration_end, partial};
 ghost use Rattle.phase_types.specs.Environments.{scopes_of};
 ghost use Rattle.mesh_topology.specs.Internal.Meshes.{one_cell, two_cells};
 ghost use Rattle.seq_meaning.specs.Internal.Cases.{acts_and_folds, adds_greatest, an_act, compares_nil, divides_for_nil, first_comprehension, first_state, locals_end, loop_divides, loops_of_iterations, nested_loops, scopes_of_branches, set_of_nil, with_prints, along_cycles, counts_in_iterations, counts_no_ends, counts_to, divides_by_ids, field_in_scope, heat, id_of_nil, least_id, no_cells, placed, reads_built_ins, scalars_end, sides_of_faces, traps_at_element, traps_in_main, wraps_and_traps, writes_heads, writes_twice};
-ghost use Rattle.seq_meaning.specs.Runs.{print_limit, print_number, ScopeOpened, ScopeClosed, FieldDeclared, ComprehensionReached, RunEnded, fields_left, path_of, phases_of, prints_of, run_end};
+ghost use Rattle.seq_meaning.specs.Runs.{print_number, ScopeOpened, ScopeClosed, FieldDeclared, ComprehensionReached, RunEnded, fields_left, path_of, phases_of, prints_of, run_end};
 
 /// The degree of each vertex of one cell and of two.
 fn degrees_of_vertices()
