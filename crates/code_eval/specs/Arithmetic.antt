@@ -1,20 +1,38 @@
 -- The numbers of programs, their comparisons and their assignments. This project's own profile after Liszt (DeVito et al.,
 -- Supercomputing 2011).
-use Rattle.std.specs.Prelude.{ℕ, ◌==◌, ◌&&◌, ◌^◌, not, Bool, if◌then◌else◌, Option, ◌∷◌, [], slice_get, ℤ, pos, neg_ℤ, int_lt, int_le}
+use Rattle.std.specs.Prelude.{ℕ, ◌==◌, ◌&&◌, ◌^◌, not, Bool, if◌then◌else◌, Option, ◌∷◌, [], slice_get, ℤ, pos, neg_ℤ, ◌+ℤ◌, ◌-ℤ◌, ◌*ℤ◌, int_lt, int_le, int_div, int_rem, Result, Ok, Err}
 use Rattle.std.specs.Option.{option_map, option_and_then}
 use Rattle.liszt_base.specs.MeshLists.{MeshLists}
 use Rattle.liszt_base.specs.Reductions.{fold, word, value}
 use Rattle.liszt_base.specs.declared.accesses.Spot.{Spot}
+use Rattle.liszt_base.specs.declared.answers.TrapKind.{TrapKind}
+use Rattle.liszt_base.specs.declared.answers.TrapKind.TheVariants.{Overflow, ZeroDivide}
 use Rattle.liszt_base.specs.declared.elements.Elem.{Elem}
 use Rattle.liszt_base.specs.declared.elements.Op.TheVariants.{Add}
 use Rattle.liszt_tree.specs.declared.tree.How.{How}
 use Rattle.liszt_tree.specs.declared.tree.How.TheVariants.{Set, Fold, Less}
 use Rattle.liszt_tree.specs.declared.tree.Rel.{Rel}
 use Rattle.liszt_tree.specs.declared.tree.Rel.TheVariants.{Same, Other, Below, AtMost, Above, AtLeast}
+use Rattle.resolved_code.specs.declared.expressions.Arithmetic.{Arithmetic}
+use Rattle.resolved_code.specs.declared.expressions.Arithmetic.TheVariants.{Plus, Minus, Times, Over, Rest}
 
 -- NUMBERS are signed, of 64 bits; a result outside of them is an overflow.
 abbrev pub is_in_range : ℤ → Bool
 is_in_range n = int_le (neg_ℤ (pos (2 ^ 63))) n && int_lt n (pos (2 ^ 63))
+
+abbrev pub in_range : ℤ → Result ℤ TrapKind
+in_range n = if is_in_range n then Ok n else Err Overflow
+
+-- OPERATORS between numbers. Division rounds towards zero, the remainder has the sign of the dividend, and neither divides by zero.
+abbrev pub divided : ℤ → Result ℤ TrapKind → Result ℤ TrapKind
+divided divisor result = if int_le divisor (pos 0) && int_le (pos 0) divisor then Err ZeroDivide else result
+
+abbrev pub arithmetic_result : Arithmetic → ℤ → ℤ → Result ℤ TrapKind
+arithmetic_result Plus a b = in_range (a +ℤ b)
+arithmetic_result Minus a b = in_range (a -ℤ b)
+arithmetic_result Times a b = in_range (a *ℤ b)
+arithmetic_result Over a b = divided b (in_range (int_div a b))
+arithmetic_result Rest a b = divided b (Ok (int_rem a b))
 
 -- COMPARISONS of numbers
 abbrev pub holds : Rel → ℤ → ℤ → Bool

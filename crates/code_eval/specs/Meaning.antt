@@ -1,5 +1,5 @@
 -- What resolved code means: each form as the tree from which it was resolved, over slots in place of names. This project's own.
-use Rattle.std.specs.Prelude.{ℕ, ◌&&◌, ◌||◌, nat_lt, not, Bool, true, if◌then◌else◌, Option, Some, None, List, [], ◌∷◌, map, get_or, ℤ, pos, neg_ℤ, ◌+ℤ◌, ◌-ℤ◌, ◌*ℤ◌, int_le, int_div, int_rem}
+use Rattle.std.specs.Prelude.{ℕ, ◌&&◌, ◌||◌, nat_lt, not, Bool, true, if◌then◌else◌, Option, Some, None, List, [], ◌∷◌, map, get_or, ℤ, pos, neg_ℤ, Result, Ok, Err}
 use Rattle.std.specs.List.{slice_set}
 use Rattle.std.specs.Option.{option_and_then}
 use Rattle.liszt_base.specs.Kinds.{is_kind, has_set}
@@ -7,7 +7,8 @@ use Rattle.liszt_base.specs.MeshLists.{MeshLists}
 use Rattle.liszt_base.specs.declared.accesses.Mode.TheVariants.{Read}
 use Rattle.liszt_base.specs.declared.accesses.Spot.{Spot}
 use Rattle.liszt_base.specs.declared.answers.Place.{Place}
-use Rattle.liszt_base.specs.declared.answers.TrapKind.TheVariants.{Overflow, ZeroDivide, NilElement, Spent}
+use Rattle.liszt_base.specs.declared.answers.TrapKind.{TrapKind}
+use Rattle.liszt_base.specs.declared.answers.TrapKind.TheVariants.{NilElement, Spent}
 use Rattle.liszt_base.specs.declared.elements.Elem.{Elem}
 use Rattle.liszt_base.specs.declared.elements.Kind.{Kind}
 use Rattle.liszt_base.specs.declared.elements.Kind.TheVariants.{Vertex, Edge, Face, Cell}
@@ -18,7 +19,6 @@ use Rattle.topo_operators.specs.Operators.{head, tail, inside, outside, flip, to
 use Rattle.phase_types.specs.Environments.{is_built_in}
 use Rattle.phase_types.specs.Walk.{mode_by}
 use Rattle.resolved_code.specs.declared.expressions.Arithmetic.{Arithmetic}
-use Rattle.resolved_code.specs.declared.expressions.Arithmetic.TheVariants.{Plus, Minus, Times, Over, Rest}
 use Rattle.resolved_code.specs.declared.expressions.Connective.{Connective}
 use Rattle.resolved_code.specs.declared.expressions.Connective.TheVariants.{Or, And}
 use Rattle.resolved_code.specs.declared.expressions.ElementCode.{ElementCode, fold-ElementCode}
@@ -33,7 +33,7 @@ use Rattle.resolved_code.specs.declared.expressions.TruthCode.TheOpen.{TruthCode
 use Rattle.resolved_code.specs.declared.expressions.TruthLink.{TruthLink}
 use Rattle.resolved_code.specs.declared.statements.StatementCode.{StatementCode, fold-StatementCode}
 use Rattle.resolved_code.specs.declared.statements.StatementCode.TheOpen.{StatementCode-F}
-use Rattle.code_eval.specs.Arithmetic.{is_in_range, holds, operand, assigned_value, built_in_value, spot_of}
+use Rattle.code_eval.specs.Arithmetic.{in_range, arithmetic_result, holds, operand, assigned_value, built_in_value, spot_of}
 use Rattle.code_eval.specs.Executions.{Activation, Execution, Done, pure, no_meaning, modify, trap, act, ◌>>=◌, ◌>>◌, if_then_else, for_each, in_turn, loop}
 
 -- ELEMENTS, from the element slots. An operator of an element that is not of its operand's kind, or not of the mesh, has no meaning.
@@ -74,18 +74,12 @@ abbrev pub element_execution : MeshLists → ElementCode → Execution (Option E
 element_execution mesh e view a = meant (element_value mesh a.elements e) view a
 
 -- NUMBERS
-abbrev pub checked_number : Place → ℤ → Execution ℤ
-checked_number place n = if_then_else (is_in_range n) (pure n) (trap Overflow place)
-
-abbrev pub checked_division : Place → ℤ → Execution ℤ → Execution ℤ
-checked_division place divisor by = if_then_else (int_le divisor (pos 0) && int_le (pos 0) divisor) (trap ZeroDivide place) by
+abbrev pub number_or_trap : Place → Result ℤ TrapKind → Execution ℤ
+number_or_trap place (Ok n) = pure n
+number_or_trap place (Err kind) = trap kind place
 
 abbrev pub operator_result : Arithmetic → Place → ℤ → ℤ → Execution ℤ
-operator_result Plus place a b = checked_number place (a +ℤ b)
-operator_result Minus place a b = checked_number place (a -ℤ b)
-operator_result Times place a b = checked_number place (a *ℤ b)
-operator_result Over place a b = checked_division place b (checked_number place (int_div a b))
-operator_result Rest place a b = checked_division place b (pure (int_rem a b))
+operator_result op place a b = number_or_trap place (arithmetic_result op a b)
 
 abbrev pub read_value : Spot → ℤ → Execution ℤ
 read_value spot n = act (record { spot = spot; mode = Read; value = n }) n
@@ -119,7 +113,7 @@ number_layer mesh (NumberCode-F.Local slot) = λ view a. pure (get_or a.numbers 
 number_layer mesh (NumberCode-F.Scalar scalar) = λ view a. pure (get_or a.scalars scalar (pos 0)) view a
 number_layer mesh (NumberCode-F.Field place field arg) = element_execution mesh arg >>= λ x. field_read mesh place field x
 number_layer mesh (NumberCode-F.Id place arg) = element_execution mesh arg >>= λ x. id_result place x
-number_layer mesh (NumberCode-F.Neg place arg) = arg >>= λ n. checked_number place (neg_ℤ n)
+number_layer mesh (NumberCode-F.Neg place arg) = arg >>= λ n. number_or_trap place (in_range (neg_ℤ n))
 number_layer mesh (NumberCode-F.Chain first rest) = first >>= λ n. number_rest n rest
 
 abbrev pub number_link : NumberLink-F (Execution ℤ) NumberOperand → NumberOperand

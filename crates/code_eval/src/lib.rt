@@ -2,6 +2,7 @@
 #![tactic(auto)]
 
 mod activation;
+mod arithmetic;
 mod elements;
 mod numbers;
 mod shared;
@@ -11,5 +12,7 @@ mod truths;
 mod words;
 
 pub use activation::{Activation, Stopped};
+pub use arithmetic::{assigned, compare, negate, operate};
 pub use statements::run_body;
+pub use truths::is_decided;
 pub use words::Words;

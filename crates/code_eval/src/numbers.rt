@@ -1,67 +1,32 @@
 //! Number expressions.
 
-ghost use Rattle.std.specs.Prelude.{◌≡◌, Some, true, is_some, map, ℤ};
+ghost use Rattle.std.specs.Prelude.{◌≡◌, Some, true, is_some, map};
 ghost use Rattle.code_eval.specs.Arithmetic.{built_in_value};
 ghost use Rattle.code_eval.specs.Executions.{CanRun, LeadsTo, answered, pure, stop_in};
-ghost use Rattle.code_eval.specs.Internal.Ranges.{IsIfFits};
 ghost use Rattle.code_eval.specs.Stores.{StoreView};
-ghost use Rattle.code_eval.specs.Meaning.{checked_number, field_read, id_result, number_execution, number_operand, number_rest, operator_result, spot_read};
-ghost use Rattle.resolved_code.specs.declared.expressions.Arithmetic.TheVariants.{Over, Rest};
+ghost use Rattle.code_eval.specs.Meaning.{field_read, id_result, number_execution, number_operand, number_or_trap as NumberOrTrap, number_rest, spot_read};
 
 use crate::activation::{Activation, Stopped, stop};
+use crate::arithmetic::{negate, operate};
 use crate::elements::element;
 use crate::slots::number_at;
 use crate::words::Words;
 use liszt_base::{Elem, Place, Spot, TrapKind};
 use mesh_topology::Mesh;
-use resolved_code::{Arithmetic, NumberCode, NumberLink};
+use resolved_code::{NumberCode, NumberLink};
 
-/// A number, or an overflow where it does not fit.
-fn checked(place: Place, n: Option<i64>, a: &mut Activation) -> Result<i64, Stopped>
-    ensures { (k : ℤ) (s : StoreView) → IsIfFits n k
-        → LeadsTo (checked_number place k) a.old s (answered (stop_in result a.new)) a.new s }
+/// A number, or a trap of its kind.
+fn number_or_trap(
+    place: Place,
+    n: Result<i64, TrapKind>,
+    a: &mut Activation,
+) -> Result<i64, Stopped>
+    ensures { (s : StoreView) → LeadsTo (NumberOrTrap place n) a.old s
+        (answered (stop_in result a.new)) a.new s }
 {
     match n {
-        Some(k) => Ok(k),
-        None => Err(stop(TrapKind::Overflow, place, a)),
-    }
-}
-
-/// The quotient of two numbers, rounded towards zero.
-fn divide(place: Place, n: i64, k: i64, a: &mut Activation) -> Result<i64, Stopped>
-    ensures { (s : StoreView) → LeadsTo (operator_result Over place n k) a.old s
-        (answered (stop_in result a.new)) a.new s }
-{
-    if k == 0 {
-        Err(stop(TrapKind::ZeroDivide, place, a))
-    } else {
-        checked(place, n.checked_div(k), a)
-    }
-}
-
-/// The remainder of two numbers, with the sign of the first.
-fn remainder(place: Place, n: i64, k: i64, a: &mut Activation) -> Result<i64, Stopped>
-    ensures { (s : StoreView) → LeadsTo (operator_result Rest place n k) a.old s
-        (answered (stop_in result a.new)) a.new s }
-{
-    if k == 0 {
-        Err(stop(TrapKind::ZeroDivide, place, a))
-    } else {
-        Ok(n.wrapping_rem(k))
-    }
-}
-
-/// The result of an operator between two numbers.
-fn operate(op: Arithmetic, place: Place, n: i64, k: i64, a: &mut Activation) -> Result<i64, Stopped>
-    ensures { (s : StoreView) → LeadsTo (operator_result op place n k) a.old s
-        (answered (stop_in result a.new)) a.new s }
-{
-    match op {
-        Arithmetic::Plus => checked(place, n.checked_add(k), a),
-        Arithmetic::Minus => checked(place, n.checked_sub(k), a),
-        Arithmetic::Times => checked(place, n.checked_mul(k), a),
-        Arithmetic::Over => divide(place, n, k, a),
-        Arithmetic::Rest => remainder(place, n, k, a),
+        Ok(n) => Ok(n),
+        Err(kind) => Err(stop(kind, place, a)),
     }
 }
 
@@ -151,7 +116,7 @@ pub(crate) fn number<W: Words>(
         }
         NumberCode::Neg { place, arg } => {
             let n = number(m, arg.get(), w, a)?;
-            checked(*place, n.checked_neg(), a)
+            number_or_trap(*place, negate(n), a)
         }
         NumberCode::Chain { first, rest } => {
             let n = number(m, first.get(), w, a)?;
@@ -177,7 +142,7 @@ fn chain<W: Words>(
     let mut n = first;
     for link in rest {
         let k = number(m, &link.arg, w, a)?;
-        n = operate(link.op, link.place, n, k, a)?;
+        n = number_or_trap(link.place, operate(link.op, n, k), a)?;
     }
     Ok(n)
 }

@@ -2,11 +2,11 @@
 
 ghost use Rattle.std.specs.Prelude.{◌≡◌, map};
 ghost use Rattle.liszt_base.specs.declared.answers.TrapKind.TheVariants.{Spent};
-ghost use Rattle.code_eval.specs.Arithmetic.{assigned_value, operand as OperandOf};
 ghost use Rattle.code_eval.specs.Executions.{CanRun, LeadsTo, answered, loop, stop_in, trap};
 ghost use Rattle.code_eval.specs.Meaning.{assign_field, body_execution, set_members, statement_execution, truth_execution, visit_members};
 
 use crate::activation::{Activation, Stopped, stop};
+use crate::arithmetic::{assigned, operand};
 use crate::elements::element;
 use crate::numbers::number;
 use crate::slots::{number_at, set_element, set_number};
@@ -17,27 +17,6 @@ use liszt_tree::How;
 use mesh_topology::Mesh;
 use resolved_code::{StatementCode, TruthCode};
 use topo_operators::members;
-
-/// The operand of an assignment: for `-=` the negation, modulo 2^64.
-fn operand(how: How, n: i64) -> i64
-    ensures { result ≡ OperandOf how n }
-{
-    match how {
-        How::Less => n.wrapping_neg(),
-        _ => n,
-    }
-}
-
-/// The value after an assignment.
-fn assigned(how: How, old: i64, n: i64) -> i64
-    ensures { result ≡ assigned_value how old n }
-{
-    match how {
-        How::Set => n,
-        How::Fold(op) => fold_op(op, old, n),
-        How::Less => fold_op(Op::Add, old, operand(how, n)),
-    }
-}
 
 /// An assignment to a field at an element, which traps at nil. A reduction loads and then stores.
 fn write<W: Words>(

@@ -1,35 +1,20 @@
 //! Conditions.
 
 ghost use Rattle.std.specs.Prelude.{◌≡◌, map};
-ghost use Rattle.code_eval.specs.Arithmetic.{holds};
 ghost use Rattle.code_eval.specs.Executions.{CanRun, LeadsTo, answered, stop_in};
 ghost use Rattle.code_eval.specs.Meaning.{connected as Connected, is_decided as IsDecided, truth_execution, truth_operand, truth_rest};
 
 use crate::activation::{Activation, Stopped};
+use crate::arithmetic::compare;
 use crate::elements::element;
 use crate::numbers::number;
 use crate::words::Words;
-use liszt_tree::Rel;
 use mesh_topology::Mesh;
 use resolved_code::{Connective, TruthCode, TruthLink};
 use topo_operators::{same, valid};
 
-/// Whether a comparison of numbers holds.
-fn compare(rel: Rel, n: i64, k: i64) -> bool
-    ensures { result ≡ holds rel n k }
-{
-    match rel {
-        Rel::Same => n <= k && k <= n,
-        Rel::Other => !(n <= k && k <= n),
-        Rel::Below => n < k,
-        Rel::AtMost => n <= k,
-        Rel::Above => k < n,
-        Rel::AtLeast => k <= n,
-    }
-}
-
 /// Whether the further operands of a chain are skipped.
-fn is_decided(op: Connective, b: bool) -> bool
+pub fn is_decided(op: Connective, b: bool) -> bool
     ensures { result ≡ IsDecided op b }
 {
     match op {

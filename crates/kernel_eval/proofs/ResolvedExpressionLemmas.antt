@@ -2,13 +2,14 @@
 use Rattle.std.proofs.Common.{◌≡◌, Bool, true, false, cond, List, [], ◌∷◌, ◌++◌, map, get_or, refl, sym, ap, subst, ◌∙◌, append_assoc, append-nil}
 use Rattle.std.proofs.lemmas.Bool.{lt-ltb, and_parts}
 use Rattle.std.specs.Option.{option_and_then}
-use Rattle.std.specs.Prelude.{ℕ, Option, Some, None, ℤ, pos, neg_ℤ, ◌+ℤ◌, ◌-ℤ◌, ◌*ℤ◌, int_div, int_le, ◌&&◌, ◌||◌, if◌then◌else◌, Result, Ok, Err}
+use Rattle.std.specs.Prelude.{ℕ, Option, Some, None, ℤ, pos, neg_ℤ, ◌+ℤ◌, ◌-ℤ◌, ◌*ℤ◌, int_div, int_rem, int_le, ◌&&◌, ◌||◌, if◌then◌else◌, Result, Ok, Err}
 use Rattle.liszt_base.specs.Kinds.{is_kind}
 use Rattle.liszt_base.specs.declared.accesses.Mode.TheVariants.{Read}
 use Rattle.liszt_base.specs.declared.accesses.Spot.{Spot}
 use Rattle.liszt_base.specs.declared.answers.Place.{Place}
 use Rattle.liszt_base.specs.declared.answers.ProgramFault.{ProgramFault}
 use Rattle.liszt_base.specs.declared.answers.ProgramWhat.TheVariants.{TypeMismatch}
+use Rattle.liszt_base.specs.declared.answers.TrapKind.{TrapKind}
 use Rattle.liszt_base.specs.declared.answers.TrapKind.TheVariants.{Overflow, ZeroDivide, NilElement}
 use Rattle.liszt_base.specs.declared.elements.Elem.{Elem}
 use Rattle.liszt_base.specs.declared.elements.Kind.{Kind}
@@ -50,17 +51,18 @@ use Rattle.phase_types.specs.Resolve.{fails, Names, Accesses, resolution_of, wit
 use Rattle.phase_types.specs.Types.{are_towards_kinds, is_sameness}
 use Rattle.phase_types.specs.Walk.{OfField, OfScalar}
 use Rattle.code_eval.specs.Acts.{Act}
+use Rattle.code_eval.specs.Arithmetic.{in_range, divided}
 use Rattle.code_eval.specs.Executions as code
 use Rattle.code_eval.specs.declared.activation.Activation.{Activation}
 use Rattle.code_eval.specs.Executions.{Execution, ◌>>=◌}
 use Rattle.code_eval.specs.Meaning as resolved
 use Rattle.code_eval.specs.Stops.{Stop}
 use Rattle.code_eval.proofs.LayerLemmas.{slot_is, call_is, towards_is, constant_is, local_is, scalar_is, field_is, id_is, neg_is, chain_is, valid_is, not_is, truth_chain_is, compare_numbers_is, compare_elements_is}
-use Rattle.kernel_eval.specs.Meaning.{Value, NumberValue, TruthValue, ElementValue, number_of, truth_of, element_of, is_in_range, built_in_value, spot_of, checked_number, checked_division, operator_result, is_decided, negation, complement, comparison_result, id_result, call_result, scalar_read, read_spot, spot_value, field_read, name_read, meaning, links_meaning}
+use Rattle.kernel_eval.specs.Meaning.{Value, NumberValue, TruthValue, ElementValue, number_of, truth_of, element_of, is_in_range, built_in_value, spot_of, checked_number, checked_division, operator_result, is_decided, negation, complement, comparison_result, id_result, call_result, scalar_read, read_spot, spot_value, field_read, name_read, meaning, links_meaning, trap}
 use Rattle.kernel_eval.specs.Outcomes.{Computation, and_then, pure, if_then_else}
 use Rattle.kernel_eval.specs.States.{EvaluationState, value_in, scalar_value, local_bound_to, element_bound_to, with_act}
 use Rattle.kernel_eval.proofs.ResolvingLemmas.{IfOk, ok_then, ok_weaken, ok_under, in_sequence, Within, access_known}
-use Rattle.kernel_eval.proofs.SimulationLemmas.{Setting, known_mode, NameAgrees, Agrees, IsNested, Matches, Simulates, extends_itself, nested_itself, simulates_then, simulates_if, simulates_value, simulates_trap, simulates_as}
+use Rattle.kernel_eval.proofs.SimulationLemmas.{Setting, known_mode, NameAgrees, Agrees, IsNested, Matches, Simulates, extends_itself, nested_itself, simulates_then, simulates_value, simulates_trap, simulates_as}
 
 -- VALUES alike
 abbrev pub IsNumber : Value → ℤ → Type 0
@@ -152,19 +154,26 @@ module _ (c : Setting) (names : Names) where
   Follows e (typed.Element kind x) = ElementFollows kind (meaning c.mesh c.globals e) (resolved.element_execution c.mesh x)
 
   -- NUMBERS
-  checked : (place : Place) (n : ℤ) → NumberFollows (checked_number place n) (resolved.checked_number place n)
-  checked place n = simulates_if (is_in_range n) (simulates_value refl) (simulates_trap Overflow place)
+  checked : (place : Place) (n : ℤ) → NumberFollows (checked_number place n) (resolved.number_or_trap place (in_range n))
+  checked place n = go (is_in_range n) where
+    go : (b : Bool) → NumberFollows (if_then_else b (pure (NumberValue n)) (trap Overflow place)) (resolved.number_or_trap place (if b then Ok n else Err Overflow))
+    go true = simulates_value refl
+    go false = simulates_trap Overflow place
 
-  divided : (place : Place) (d : ℤ) {by : Computation EvaluationState Value} {p : Execution ℤ} → NumberFollows by p → NumberFollows (checked_division place d by) (resolved.checked_division place d p)
-  divided place d h = simulates_if (int_le d (pos 0) && int_le (pos 0) d) (simulates_trap ZeroDivide place) h
+  divided_follows : (place : Place) (d : ℤ) {by : Computation EvaluationState Value} (r : Result ℤ TrapKind) → NumberFollows by (resolved.number_or_trap place r)
+      → NumberFollows (checked_division place d by) (resolved.number_or_trap place (divided d r))
+  divided_follows place d {by = by} r h = go (int_le d (pos 0) && int_le (pos 0) d) where
+    go : (b : Bool) → NumberFollows (if_then_else b (trap ZeroDivide place) by) (resolved.number_or_trap place (if b then Err ZeroDivide else r))
+    go true = simulates_trap ZeroDivide place
+    go false = h
 
   operated : (s : Sign) (place : Place) (op : Arithmetic) → arithmetic_of s ≡ Some op → (v w : Value) (n k : ℤ) → IsNumber v n → IsNumber w k
       → NumberFollows (operator_result s place v w) (resolved.operator_result op place n k)
   operated sign.Plus place op is v w n k e f = subst (λ op. NumberFollows (operator_result sign.Plus place v w) (resolved.operator_result op place n k)) (some_is arithmetic.Plus op is) (rw (e, f) (checked place (n +ℤ k)))
   operated sign.Minus place op is v w n k e f = subst (λ op. NumberFollows (operator_result sign.Minus place v w) (resolved.operator_result op place n k)) (some_is arithmetic.Minus op is) (rw (e, f) (checked place (n -ℤ k)))
   operated sign.Times place op is v w n k e f = subst (λ op. NumberFollows (operator_result sign.Times place v w) (resolved.operator_result op place n k)) (some_is arithmetic.Times op is) (rw (e, f) (checked place (n *ℤ k)))
-  operated sign.Over place op is v w n k e f = subst (λ op. NumberFollows (operator_result sign.Over place v w) (resolved.operator_result op place n k)) (some_is arithmetic.Over op is) (rw (e, f) (divided place k (checked place (int_div n k))))
-  operated sign.Rest place op is v w n k e f = subst (λ op. NumberFollows (operator_result sign.Rest place v w) (resolved.operator_result op place n k)) (some_is arithmetic.Rest op is) (rw (e, f) (divided place k (simulates_value refl)))
+  operated sign.Over place op is v w n k e f = subst (λ op. NumberFollows (operator_result sign.Over place v w) (resolved.operator_result op place n k)) (some_is arithmetic.Over op is) (rw (e, f) (divided_follows place k (in_range (int_div n k)) (checked place (int_div n k))))
+  operated sign.Rest place op is v w n k e f = subst (λ op. NumberFollows (operator_result sign.Rest place v w) (resolved.operator_result op place n k)) (some_is arithmetic.Rest op is) (rw (e, f) (divided_follows place k (Ok (int_rem n k)) (simulates_value refl)))
   operated sign.Or place op is v w n k e f = absurd cc
   operated sign.And place op is v w n k e f = absurd cc
 

@@ -3,9 +3,9 @@ use Rattle.std.proofs.lemmas.Int.{to_z-of_z}
 use mir.Val.{to_z, of_z, SFits}
 use mir.Syntax.{w64}
 use Rattle.resolved_code.specs.declared.expressions.NumberCode.{the_lemmas as code_lemmas}
-use Rattle.code_eval.specs.Executions.{CanRun, LeadsTo, answered, pure, ◌>>=◌}
-use Rattle.code_eval.specs.Internal.Ranges.{IsIfFits}
-use Rattle.code_eval.specs.Meaning.{element_execution, field_read, number_execution, number_operand, number_rest, operator_result}
+use Rattle.code_eval.specs.Arithmetic.{in_range}
+use Rattle.code_eval.specs.Executions.{CanRun, LeadsTo, answered, pure, stop_in, ◌>>=◌}
+use Rattle.code_eval.specs.Meaning.{element_execution, field_read, number_execution, number_operand, number_or_trap, number_rest, operator_result}
 use Rattle.code_eval.specs.Stops.{Trapped}
 use Rattle.code_eval.proofs.ChainLemmas.{at_item}
 use Rattle.code_eval.proofs.LayerLemmas.{constant_is, local_is, scalar_is, field_is, id_is, neg_is, chain_is}
@@ -65,10 +65,9 @@ number-returns-in_err-n-in-Neg g t c =
 pub number-returns-in_ok-n-in-Neg : goal.number-returns-in_ok-n-in-Neg
 number-returns-in_ok-n-in-Neg g t c =
     let fits : SFits w64 c.in_ok-n-in-Neg.n = search rules in
-    let negation : IsIfFits c.checked_neg.result (neg_ℤ c.in_ok-n-in-Neg.n) =
-    subst (λ v. IsIfFits c.checked_neg.result (neg_ℤ v)) (to_z-of_z w64 c.in_ok-n-in-Neg.n fits) (record { is = c.checked_neg.ensures }) in
-    rw (c.in-Neg.is, neg_is c.args.m.now c.in-Neg.place c.in-Neg.arg, sym c.get.ensures)
-    (then (given_value _ c.in_ok-n-in-Neg.ensures) (c.checked.ensures (neg_ℤ c.in_ok-n-in-Neg.n) _ negation))
+    let negation : c.negate.result ≡ in_range (neg_ℤ c.in_ok-n-in-Neg.n) = rw (to_z-of_z w64 c.in_ok-n-in-Neg.n fits) at c.negate.ensures in
+    let result = subst (λ r. LeadsTo (number_or_trap c.in-Neg.place r) c.number.new.a (g.W.Words.store c.number.new.w) (answered (stop_in c.number_or_trap.result c.number_or_trap.new.a)) c.number_or_trap.new.a (g.W.Words.store c.number.new.w)) negation (c.number_or_trap.ensures (g.W.Words.store c.number.new.w)) in
+    rw (c.in-Neg.is, neg_is c.args.m.now c.in-Neg.place c.in-Neg.arg, sym c.get.ensures) (then (given_value _ c.in_ok-n-in-Neg.ensures) result)
 
 pub number-number-requires-in-Chain : goal.number-number-requires-in-Chain
 number-number-requires-in-Chain g t c κs within =
@@ -116,15 +115,15 @@ chain-returns-in_err-n g t c =
     let so_far = rw whole at c.loop-link.invariant in
     let here = at_item (λ xs. number_rest (to_z w64 c.loop-link.n-bits) (map (number_operand c.args.m.now) xs)) c.args.rest.now c.loop-link.link-index c.link-item.result c.loop-link-test.true c.link-item.is so_far in
     let k : SFits w64 c.in_ok-k.k = search rules in
-    let result : LeadsTo (operator_result c.link-item.result.op c.link-item.result.place (to_z w64 c.loop-link.n-bits) c.in_ok-k.k) c.number.new.a (g.W.Words.store c.number.new.w) (answered (Err (Trapped c.operate.new.a.trap))) c.operate.new.a (g.W.Words.store c.number.new.w) =
-    subst (λ k. LeadsTo (operator_result c.link-item.result.op c.link-item.result.place (to_z w64 c.loop-link.n-bits) k) c.number.new.a (g.W.Words.store c.number.new.w) (answered (Err (Trapped c.operate.new.a.trap))) c.operate.new.a (g.W.Words.store c.number.new.w)) (to_z-of_z w64 c.in_ok-k.k k) (c.in_err-n.ensures (g.W.Words.store c.number.new.w)) in
+    let result : LeadsTo (operator_result c.link-item.result.op c.link-item.result.place (to_z w64 c.loop-link.n-bits) c.in_ok-k.k) c.number.new.a (g.W.Words.store c.number.new.w) (answered (Err (Trapped c.number_or_trap.new.a.trap))) c.number_or_trap.new.a (g.W.Words.store c.number.new.w) =
+    subst (λ k. LeadsTo (operator_result c.link-item.result.op c.link-item.result.place (to_z w64 c.loop-link.n-bits) k) c.number.new.a (g.W.Words.store c.number.new.w) (answered (Err (Trapped c.number_or_trap.new.a.trap))) c.number_or_trap.new.a (g.W.Words.store c.number.new.w)) (to_z-of_z w64 c.in_ok-k.k k) (subst (λ r. LeadsTo (number_or_trap c.link-item.result.place r) c.number.new.a (g.W.Words.store c.number.new.w) (answered (Err (Trapped c.number_or_trap.new.a.trap))) c.number_or_trap.new.a (g.W.Words.store c.number.new.w)) c.operate.ensures (c.in_err-n.ensures (g.W.Words.store c.number.new.w))) in
     then here (stop_handed_on _ _ c.from_residual-in_err-n.result c.from_residual-in_err-n.ensures.1 (then (given_value _ c.in_ok-k.ensures) result))
 
 pub chain-loop-link-preserved : goal.chain-loop-link-preserved
 chain-loop-link-preserved g t c =
     let here = at_item (λ xs. number_rest (to_z w64 c.loop-link.n-bits) (map (number_operand c.args.m.now) xs)) c.args.rest.now c.loop-link.link-index c.link-item.result c.loop-link-test.true c.link-item.is c.loop-link.invariant in
     let k : SFits w64 c.in_ok-k.k = search rules in
-    let result : LeadsTo (operator_result c.link-item.result.op c.link-item.result.place (to_z w64 c.loop-link.n-bits) c.in_ok-k.k) c.number.new.a (g.W.Words.store c.number.new.w) (pure c.in_ok-n.n) c.operate.new.a (g.W.Words.store c.number.new.w) =
-    subst (λ k. LeadsTo (operator_result c.link-item.result.op c.link-item.result.place (to_z w64 c.loop-link.n-bits) k) c.number.new.a (g.W.Words.store c.number.new.w) (pure c.in_ok-n.n) c.operate.new.a (g.W.Words.store c.number.new.w)) (to_z-of_z w64 c.in_ok-k.k k) (c.in_ok-n.ensures (g.W.Words.store c.number.new.w)) in
+    let result : LeadsTo (operator_result c.link-item.result.op c.link-item.result.place (to_z w64 c.loop-link.n-bits) c.in_ok-k.k) c.number.new.a (g.W.Words.store c.number.new.w) (pure c.in_ok-n.n) c.number_or_trap.new.a (g.W.Words.store c.number.new.w) =
+    subst (λ k. LeadsTo (operator_result c.link-item.result.op c.link-item.result.place (to_z w64 c.loop-link.n-bits) k) c.number.new.a (g.W.Words.store c.number.new.w) (pure c.in_ok-n.n) c.number_or_trap.new.a (g.W.Words.store c.number.new.w)) (to_z-of_z w64 c.in_ok-k.k k) (subst (λ r. LeadsTo (number_or_trap c.link-item.result.place r) c.number.new.a (g.W.Words.store c.number.new.w) (pure c.in_ok-n.n) c.number_or_trap.new.a (g.W.Words.store c.number.new.w)) c.operate.ensures (c.in_ok-n.ensures (g.W.Words.store c.number.new.w))) in
     let n : SFits w64 c.in_ok-n.n = search rules in
     rw (to_z-of_z w64 c.in_ok-n.n n) (then here (given_value _ (then (given_value _ c.in_ok-k.ensures) result)))
