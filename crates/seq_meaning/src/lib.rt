@@ -3,3 +3,4 @@
 
 mod cases;
 pub mod laws;
+mod values;
