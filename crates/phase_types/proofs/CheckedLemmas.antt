@@ -130,7 +130,7 @@ found_value : {A : Type 0} {P Q : A → Type 0} {faults : List (Option ProgramFa
 found_value (Ok a) h g = record { same = (h.same.0, g a (h.same.1) refl) }
 found_value (Err fault) h g = record { same = h.same }
 
-comprehension_found : {names : Names} {environment : Environment} → Agrees names environment → (name : List ℕ) (at : Place) (over : Kind) (body : Body)
+pub comprehension_found : {names : Names} {environment : Environment} → Agrees names environment → (name : List ℕ) (at : Place) (over : Kind) (body : Body)
     → Finds (faults_in_main (name_requirement environment name at) ++ faults_in_steps [] (body_steps ((name, ElementName over) ∷ environment) body))
     (λ c. IsCodeOf c (record { environment = environment; name = name; over = over; body = body })) (resolved_comprehension names name at over body)
 comprehension_found {names = names} agrees name at over body =
@@ -153,7 +153,7 @@ one_more sort parts part x e = sym (filter_map-append sort parts (part ∷ []) �
 pub no_more : {A : Type 0} (sort : Part → Option A) (parts : List Part) (part : Part) → sort part ≡ None → filter_map sort parts ≡ filter_map sort (parts ++ part ∷ [])
 no_more sort parts part e = sym (filter_map-append sort parts (part ∷ []) ∙ ap (λ found. filter_map sort parts ++ cons_option found []) e ∙ append-nil (filter_map sort parts))
 
-field_follows : (state : MainState) (site : Site) (name : List ℕ) (kind : Kind) → Follows state site → resolution_of state.names name ≡ None → Follows (declares_field name kind state) (with_field name kind site)
+pub field_follows : (state : MainState) (site : Site) (name : List ℕ) (kind : Kind) → Follows state site → resolution_of state.names name ≡ None → Follows (declares_field name kind state) (with_field name kind site)
 field_follows state site name kind h new = record {
   agrees = subst (λ number. Agrees (declares_field name kind state).names ((name, FieldName number kind) ∷ site.environment)) (ap (λ fields. first_declared + length fields) h.fields)
       (declared name (resolution.Field (first_declared + length state.fields) kind) h.agrees new);
@@ -165,7 +165,7 @@ field_follows state site name kind h new = record {
   comprehensions = subst (AreCodesOf state.comprehensions) (no_more comprehension_part site.parts _ refl) h.comprehensions;
 }
 
-scalar_follows : (state : MainState) (site : Site) (name : List ℕ) → Follows state site → resolution_of state.names name ≡ None → Follows (declares_scalar name state) (with_scalar name site)
+pub scalar_follows : (state : MainState) (site : Site) (name : List ℕ) → Follows state site → resolution_of state.names name ≡ None → Follows (declares_scalar name state) (with_scalar name site)
 scalar_follows state site name h new = record {
   agrees = subst (λ number. Agrees (declares_scalar name state).names ((name, ScalarName number) ∷ site.environment)) (ap length h.scalars)
       (declared name (resolution.Scalar (length state.scalars)) h.agrees new);
@@ -176,7 +176,7 @@ scalar_follows state site name h new = record {
   comprehensions = subst (AreCodesOf state.comprehensions) (no_more comprehension_part site.parts _ refl) h.comprehensions;
 }
 
-comprehension_follows : (state : MainState) (site : Site) (c : ComprehensionCode) (comprehension : Comprehension) → Follows state site → IsCodeOf c comprehension
+pub comprehension_follows : (state : MainState) (site : Site) (c : ComprehensionCode) (comprehension : Comprehension) → Follows state site → IsCodeOf c comprehension
     → Follows (with_comprehension_code c state) (with_comprehension comprehension site)
 comprehension_follows state site c comprehension h is = record {
   agrees = h.agrees;
@@ -187,7 +187,7 @@ comprehension_follows state site c comprehension h is = record {
   comprehensions = subst (AreCodesOf (state.comprehensions ++ c ∷ [])) (one_more comprehension_part site.parts _ _ refl) (codes_append state.comprehensions (comprehensions_in site.parts) c comprehension h.comprehensions is);
 }
 
-opened : (state : MainState) (site : Site) → Follows state site → Follows (opens_block state) (block_start site)
+pub opened : (state : MainState) (site : Site) → Follows state site → Follows (opens_block state) (block_start site)
 opened state site h = record {
   agrees = h.agrees;
   scope = ap length h.scopes;
@@ -197,7 +197,7 @@ opened state site h = record {
   comprehensions = subst (AreCodesOf state.comprehensions) (no_more comprehension_part site.parts _ refl) h.comprehensions;
 }
 
-closed : (state last : MainState) (site end_site : Site) → Follows state site → Follows last end_site → Follows (closes_block state last) (after_block site end_site)
+pub closed : (state last : MainState) (site end_site : Site) → Follows state site → Follows last end_site → Follows (closes_block state last) (after_block site end_site)
 closed state last site end_site h g = record { agrees = h.agrees; scope = h.scope; fields = g.fields; scalars = g.scalars; scopes = g.scopes; comprehensions = g.comprehensions }
 
 -- PARTS OF ITEMS: values, new names, the target of an assignment, and the block after `else`
@@ -252,7 +252,7 @@ regrouped {P = P} xs ys zs result h = subst (λ faults. Finds faults P result) (
 
 -- ITEMS
 mutual
-  item_found : {state : MainState} {site : Site} → Follows state site → (i : MainItem) → Finds (faults_in_item site i) (λ r. Follows r.1 (after_item site i)) (resolved_item state i)
+  pub item_found : {state : MainState} {site : Site} → Follows state site → (i : MainItem) → Finds (faults_in_item site i) (λ r. Follows r.1 (after_item site i)) (resolved_item state i)
   item_found {state = state} {site = site} h (MainField place name at kind init) = declaration_found h name at init (declared_field state name at kind) (λ value number. code.Field number value)
       (found_made (new_name (resolution_of state.names name) at) _ (name_found h.agrees name at) (λ u new. field_follows state site name kind h new))
   item_found {state = state} {site = site} h (MainVar place name at init) = declaration_found h name at init (declared_scalar state name at) (λ value number. code.Var number value)
@@ -277,7 +277,7 @@ mutual
       found_made (resolved_comprehension state.names name at over body) _ (comprehension_found h.agrees name at over body) (λ c is. comprehension_follows state site c (comprehension_at site name over body) h is)
   item_found {state = state} {site = site} h (Print place value) = found_made (main_number state.names value) _ (value_found h.agrees value) (λ v any. h)
 
-  items_found : {state : MainState} {site : Site} → Follows state site → (done : List ItemCode) (program : Main)
+  pub items_found : {state : MainState} {site : Site} → Follows state site → (done : List ItemCode) (program : Main)
       → Finds (faults_in_items site program) (λ r. Follows r.1 (after_main site program)) (resolved_items state done program)
   items_found h done no_item = record { same = (refl, h) }
   items_found {state = state} {site = site} h done (item i rest) =
@@ -301,7 +301,7 @@ bindings_agree (entry ∷ names) name = go (bytes_eq name entry.0) (bindings_agr
   go true e = refl
   go false e = e
 
-start_follows : Follows first_state start
+pub start_follows : Follows first_state start
 start_follows = record { agrees = record { each = bindings_agree built_in_names }; scope = refl; fields = refl; scalars = refl; scopes = refl; comprehensions = tt }
 
 pub program_found : (program : Main) → Finds (faults_in_items start program) (λ r. Follows r.1 (after_main start program)) (resolved_items first_state [] program)
@@ -324,7 +324,7 @@ modes_are_those (c ∷ cs) (x ∷ xs) h (suc k) subject = modes_are_those cs xs 
 modes_are_those [] (x ∷ xs) h k subject = absurd h
 modes_are_those (c ∷ cs) [] h k subject = absurd h
 
-same_length : (cs : List ComprehensionCode) (comprehensions : List Comprehension) → AreCodesOf cs comprehensions → length cs ≡ length comprehensions
+pub same_length : (cs : List ComprehensionCode) (comprehensions : List Comprehension) → AreCodesOf cs comprehensions → length cs ≡ length comprehensions
 same_length [] [] h = refl
 same_length (c ∷ cs) (x ∷ xs) h = ap suc (same_length cs xs h.1)
 same_length [] (x ∷ xs) h = absurd h

@@ -1,4 +1,6 @@
 pub mod IterationLemmas
+pub mod ItemCodeLemmas
+pub mod MainCodeLemmas
 pub mod MainPreservationLemmas
 pub mod MainValueLemmas
 pub mod PathLemmas

@@ -1,3 +1,4 @@
 pub mod Internal
+pub mod MainCode
 pub mod MainValues
 pub mod Runs
