@@ -30,7 +30,7 @@ use Rattle.tet_reader.specs.Faults.{node_fault, cells_fault}
 use Rattle.tet_reader.proofs.Lists.{one_point_list, node_spelled, node_passes}
 use Rattle.tet_reader.proofs.EleReading.{mesh_spelled_over, mesh_passes_over, one_mesh_over}
 use Rattle.liszt_report.specs.declared.ended.Ended.{Ended}
-use Rattle.liszt_report.specs.declared.ended.Ended.TheVariants.{Done, Usage, Later, Program as OfProgram, Mesh, Limit, ReadFault, WriteFault, NoMemory}
+use Rattle.liszt_report.specs.declared.ended.Ended.TheVariants.{Done, Usage, Later, Program as OfProgram, Mesh, Limit, Trap, ReadFault, WriteFault, NoMemory}
 use Rattle.command_words.specs.Commands.{command_of, SeqCommand}
 use Rattle.liszt.specs.Expected.{RunsOn, Outcome, refusal, Within, Follows, IsProgramFault, ProgramResult, NodeResult, EleResult, TakesIn, Finishes, TakesCells, TakesPoints, Seq, ResultsIn, Expected}
 use Rattle.liszt.specs.Answers.{outside, IsLost, EndsWith, Answers, HasCauses, IsOutcome}
@@ -198,6 +198,7 @@ complete words files before now shelf shelf' sink sink' old new Later outcome a 
 complete words files before now shelf shelf' sink sink' old new (OfProgram f) outcome a c x none whole = ending_is_outcome words files before now shelf shelf' old new (OfProgram f) outcome none a x
 complete words files before now shelf shelf' sink sink' old new (Mesh f) outcome a c x none whole = ending_is_outcome words files before now shelf shelf' old new (Mesh f) outcome none a x
 complete words files before now shelf shelf' sink sink' old new (Limit f) outcome a c x none whole = ending_is_outcome words files before now shelf shelf' old new (Limit f) outcome none a x
+complete words files before now shelf shelf' sink sink' old new (Trap t) outcome a c x none whole = ending_is_outcome words files before now shelf shelf' old new (Trap t) outcome none a x
 complete words files before now shelf shelf' sink sink' old new (ReadFault i) outcome a c x none whole = ending_is_outcome words files before now shelf shelf' old new (ReadFault i) outcome none a x
 complete words files before now shelf shelf' sink sink' old new WriteFault outcome a c x none whole = absurd (whole c.1)
 complete words files before now shelf shelf' sink sink' old new NoMemory outcome a c x none whole = inr refl

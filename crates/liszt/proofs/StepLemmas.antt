@@ -17,7 +17,7 @@ use Rattle.liszt_io.specs.Shelves.{Files, Tally, FailsAt}
 use Rattle.liszt_tree.specs.Tree.{Main}
 use Rattle.liszt.specs.Simple.{Simple, IsSmall}
 use Rattle.liszt_report.specs.declared.ended.Ended.{Ended}
-use Rattle.liszt_report.specs.declared.ended.Ended.TheVariants.{Done, Usage, Later, Program as OfProgram, Mesh, Limit, ReadFault, WriteFault, NoMemory}
+use Rattle.liszt_report.specs.declared.ended.Ended.TheVariants.{Done, Usage, Later, Program as OfProgram, Mesh, Limit, Trap, ReadFault, WriteFault, NoMemory}
 use Rattle.liszt.specs.declared.job.Job.{Job}
 use Rattle.command_words.specs.Commands.{command_of, SeqCommand}
 use Rattle.liszt_base.specs.declared.answers.Refused.{Refused}
@@ -331,7 +331,9 @@ refused words files before now shelf shelf' old new (Mesh fault) (inl memory) ca
 refused words files before now shelf shelf' old new (OfProgram fault) (inr comes) can output = (ending_text (OfProgram fault), comes, output)
 refused words files before now shelf shelf' old new (Mesh fault) (inr comes) can output = (ending_text (Mesh fault), comes, output)
 refused words files before now shelf shelf' old new (Limit fault) (inl memory) can output = cc
+refused words files before now shelf shelf' old new (Trap trap) (inl memory) can output = cc
 refused words files before now shelf shelf' old new (Limit fault) (inr comes) can output = (ending_text (Limit fault), comes, output)
+refused words files before now shelf shelf' old new (Trap trap) (inr comes) can output = (ending_text (Trap trap), comes, output)
 refused words files before now shelf shelf' old new (ReadFault x) (inl memory) can output = cc
 refused words files before now shelf shelf' old new (ReadFault x) (inr comes) can output = (ending_text (ReadFault x), comes, output)
 
@@ -345,6 +347,7 @@ shelf_cause shelf shelf' Later h = h
 shelf_cause shelf shelf' (OfProgram fault) h = h
 shelf_cause shelf shelf' (Mesh fault) h = h
 shelf_cause shelf shelf' (Limit fault) h = h
+shelf_cause shelf shelf' (Trap trap) h = h
 shelf_cause shelf shelf' NoMemory h = h
 
 -- and one whose line was not is what was being written
@@ -389,6 +392,7 @@ wrote_line words shelf shelf' old new Later can output = output
 wrote_line words shelf shelf' old new (OfProgram fault) can output = output
 wrote_line words shelf shelf' old new (Mesh fault) can output = output
 wrote_line words shelf shelf' old new (Limit fault) can output = output
+wrote_line words shelf shelf' old new (Trap trap) can output = output
 wrote_line words shelf shelf' old new Usage can output = output
 wrote_line words shelf shelf' old new NoMemory can output = output
 wrote_line words shelf shelf' old new Done can output = absurd can
@@ -407,6 +411,7 @@ written_cause shelf shelf' sink sink' Later first second = (first, second)
 written_cause shelf shelf' sink sink' (OfProgram fault) first second = (first, second)
 written_cause shelf shelf' sink sink' (Mesh fault) first second = (first, second)
 written_cause shelf shelf' sink sink' (Limit fault) first second = (first, second)
+written_cause shelf shelf' sink sink' (Trap trap) first second = (first, second)
 written_cause shelf shelf' sink sink' Usage first second = (first, second)
 written_cause shelf shelf' sink sink' NoMemory first second = (first, second)
 written_cause shelf shelf' sink sink' Done first second = absurd first
@@ -418,6 +423,7 @@ not_fallen shelf shelf' Later first = omega (arith, first)
 not_fallen shelf shelf' (OfProgram fault) first = omega (arith, first)
 not_fallen shelf shelf' (Mesh fault) first = omega (arith, first)
 not_fallen shelf shelf' (Limit fault) first = omega (arith, first)
+not_fallen shelf shelf' (Trap trap) first = omega (arith, first)
 not_fallen shelf shelf' Usage first = omega (arith, first)
 not_fallen shelf shelf' NoMemory first = omega (arith, first)
 not_fallen shelf shelf' Done first = absurd first

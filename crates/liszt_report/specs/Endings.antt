@@ -17,9 +17,14 @@ use Rattle.liszt_base.specs.declared.answers.ProgramWhat.{ProgramWhat}
 use Rattle.liszt_base.specs.declared.answers.ProgramWhat.TheVariants.{BadByte, LongNumber, LongName, Big, Syntax, Deep, NameUnknown, NameTwice, TypeMismatch, PhaseConflict, ScalarWrite, BuiltinWrite}
 use Rattle.liszt_base.specs.declared.answers.Refused.{Refused}
 use Rattle.liszt_base.specs.declared.answers.Refused.TheVariants.{Fault, NoMemory as OutOfMemory}
+use Rattle.liszt_base.specs.declared.answers.TrapKind.{TrapKind}
+use Rattle.liszt_base.specs.declared.answers.TrapKind.TheVariants.{Overflow, ZeroDivide, NilElement, Spent, Prints}
+use Rattle.liszt_base.specs.declared.elements.Elem.{Elem}
+use Rattle.liszt_base.specs.declared.elements.Kind.{Kind}
+use Rattle.liszt_base.specs.declared.elements.Kind.TheVariants.{Vertex, Edge, Face, Cell}
 use Rattle.liszt_base.specs.Limits.{file_limit, point_limit, cell_limit, token_limit}
 use Rattle.liszt_report.specs.declared.ended.Ended.{Ended}
-use Rattle.liszt_report.specs.declared.ended.Ended.TheVariants.{Done, Usage, Later, Program as OfProgram, Mesh, Limit, ReadFault, WriteFault, NoMemory}
+use Rattle.liszt_report.specs.declared.ended.Ended.TheVariants.{Done, Usage, Later, Program as OfProgram, Mesh, Limit, Trap, ReadFault, WriteFault, NoMemory}
 
 -- The exit status of an ending.
 abbrev pub status : Ended → ℕ
@@ -28,6 +33,7 @@ status Usage = 1
 status (OfProgram fault) = 2
 status (Mesh fault) = 3
 status (Limit fault) = 6
+status (Trap trap) = 7
 status (ReadFault input) = 8
 status WriteFault = 9
 status NoMemory = 10
@@ -125,6 +131,24 @@ limit_word (Kept comprehension) = codes "Kept" ++ comprehension_text comprehensi
 abbrev pub limit_line : LimitWhat → ℕ → List ℕ
 limit_line what allowed = codes "limit " ++ (limit_word what ++ (codes " over " ++ (decimal allowed ++ codes "\n")))
 
+abbrev pub trap_word : TrapKind → List ℕ
+trap_word Overflow = codes "Overflow"
+trap_word ZeroDivide = codes "ZeroDivide"
+trap_word NilElement = codes "NilElement"
+trap_word Spent = codes "Spent"
+trap_word Prints = codes "Prints"
+
+abbrev pub kind_word : Kind → List ℕ
+kind_word Vertex = codes "vertex"
+kind_word Edge = codes "edge"
+kind_word Face = codes "face"
+kind_word Cell = codes "cell"
+
+-- The element of the iteration that stopped, by its kind and id, or `main` for the main program.
+abbrev pub site_text : Option Elem → List ℕ
+site_text None = codes "main"
+site_text (Some elem) = kind_word elem.kind ++ (codes " " ++ decimal elem.id)
+
 -- The line of an ending; `Done` and `WriteFault` have none.
 abbrev pub ending_text : Ended → List ℕ
 ending_text Usage =
@@ -135,6 +159,8 @@ ending_text (OfProgram fault) =
 ending_text (Mesh fault) =
     codes "mesh " ++ (mesh_file_word fault.file ++ (codes " " ++ (mesh_word fault.what ++ (codes " line " ++ (decimal fault.line ++ codes "\n")))))
 ending_text (Limit fault) = limit_line fault.what fault.allowed
+ending_text (Trap trap) =
+    codes "trap " ++ (trap_word trap.kind ++ (codes " " ++ (place_text trap.place ++ (codes " " ++ (site_text trap.elem ++ codes "\n")))))
 ending_text (ReadFault input) = codes "read fault " ++ (input_word input ++ codes "\n")
 ending_text NoMemory = codes "no memory\n"
 ending_text Done = []

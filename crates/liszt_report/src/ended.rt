@@ -3,7 +3,7 @@ ghost use Rattle.liszt_report.specs.Endings.{status, program_ending as ProgramEn
 
 use liszt_base::{
     CELL_LIMIT, FILE_LIMIT, Input, LimitFault, LimitWhat, MeshFault, MeshFile, MeshWhat, NoMemory,
-    POINT_LIMIT, ProgramFault, ProgramWhat, Refused, TOKEN_LIMIT,
+    POINT_LIMIT, ProgramFault, ProgramWhat, Refused, TOKEN_LIMIT, Trap,
 };
 
 /// How a run ends.
@@ -21,6 +21,8 @@ pub enum Ended {
     Mesh(MeshFault),
     /// Something exceeds its limit.
     Limit(LimitFault),
+    /// The program stopped while it ran.
+    Trap(Trap),
     /// This file could not be read.
     ReadFault(Input),
     /// The text could not be written whole.
@@ -91,6 +93,7 @@ pub fn status_of(ended: Ended) -> u8
         Ended::Program(_) => 2,
         Ended::Mesh(_) => 3,
         Ended::Limit(_) => 6,
+        Ended::Trap(_) => 7,
         Ended::ReadFault(_) => 8,
         Ended::WriteFault => 9,
         Ended::NoMemory => 10,

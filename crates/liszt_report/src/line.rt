@@ -1,10 +1,10 @@
 ghost use Rattle.std.specs.Prelude.{◌≡◌, ◌+◌, ◌<◌, ◌≤◌, ◌^◌, [], ◌++◌, length};
-ghost use Rattle.liszt_report.specs.declared.ended.Ended.TheVariants.{Program as OfProgram, Mesh as OfMesh};
-ghost use Rattle.liszt_report.specs.Endings.{ending_text, value_line, limit_line, limit_word, comprehension_text, place_text};
+ghost use Rattle.liszt_report.specs.declared.ended.Ended.TheVariants.{Program as OfProgram, Mesh as OfMesh, Trap as OfTrap};
+ghost use Rattle.liszt_report.specs.Endings.{ending_text, value_line, limit_line, limit_word, comprehension_text, place_text, site_text};
 
 use crate::ended::Ended;
-use crate::word::{input_word, mesh_file_word, mesh_word, program_word};
-use liszt_base::{LimitWhat, MeshFault, Place, ProgramFault};
+use crate::word::{input_word, kind_word, mesh_file_word, mesh_word, program_word, trap_word};
+use liszt_base::{Elem, LimitWhat, MeshFault, Place, ProgramFault, Trap};
 use text_scan::LineBuf;
 
 /// Replaces the buffer's bytes with the line of an ending. `Done` and `WriteFault` have none.
@@ -20,6 +20,7 @@ pub fn set_ending(line: &mut LineBuf, ended: Ended)
         Ended::Program(fault) => append_program_fault(line, fault),
         Ended::Mesh(fault) => append_mesh_fault(line, fault),
         Ended::Limit(fault) => append_limit(line, fault.what, fault.allowed),
+        Ended::Trap(trap) => append_trap(line, trap),
         Ended::ReadFault(input) => {
             line.text(b"read fault ");
             line.text(input_word(input));
@@ -84,6 +85,36 @@ fn append_mesh_fault(line: &mut LineBuf, fault: MeshFault)
     line.text(b" line ");
     line.count(u64::from(fault.line));
     line.text(b"\n");
+}
+
+/// Appends the trap's line to an empty buffer.
+fn append_trap(line: &mut LineBuf, trap: Trap)
+    requires { line.old ≡ [] }
+    ensures { line.new ≡ ending_text (OfTrap trap) }
+{
+    line.text(b"trap ");
+    line.text(trap_word(trap.kind));
+    line.text(b" ");
+    append_place(line, trap.place);
+    line.text(b" ");
+    append_site(line, trap.elem);
+    line.text(b"\n");
+}
+
+/// Appends the kind word and the id of an element, or `main`.
+fn append_site(line: &mut LineBuf, elem: Option<Elem>)
+    requires { length line.old ≤ 100 }
+    ensures text { line.new ≡ line.old ++ site_text elem }
+    ensures short { length line.new ≤ length line.old + 30 }
+{
+    match elem {
+        Some(elem) => {
+            line.text(kind_word(elem.kind));
+            line.text(b" ");
+            line.count(u64::from(elem.id));
+        }
+        None => line.text(b"main"),
+    }
 }
 
 /// Appends the limit's line to an empty buffer.

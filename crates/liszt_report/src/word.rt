@@ -1,7 +1,7 @@
 ghost use Rattle.std.specs.Prelude.{◌≡◌, ◌≤◌, length};
-ghost use Rattle.liszt_report.specs.Endings.{mesh_file_word as MeshFileWord, input_word as InputWord, program_word as ProgramWord, mesh_word as MeshWord};
+ghost use Rattle.liszt_report.specs.Endings.{mesh_file_word as MeshFileWord, input_word as InputWord, program_word as ProgramWord, mesh_word as MeshWord, kind_word as KindWord, trap_word as TrapWord};
 
-use liszt_base::{Input, MeshFile, MeshWhat, ProgramWhat};
+use liszt_base::{Input, Kind, MeshFile, MeshWhat, ProgramWhat, TrapKind};
 
 /// The word for a file of a mesh.
 pub fn mesh_file_word(file: MeshFile) -> &'static [u8]
@@ -66,5 +66,32 @@ pub fn mesh_word(what: MeshWhat) -> &'static [u8]
         MeshWhat::CellTwice => b"CellTwice",
         MeshWhat::FaceShared => b"FaceShared",
         MeshWhat::TooMany => b"TooMany",
+    }
+}
+
+/// The word for a kind of elements.
+pub fn kind_word(kind: Kind) -> &'static [u8]
+    ensures word { result.now ≡ KindWord kind }
+    ensures short { length result.now ≤ 6 }
+{
+    match kind {
+        Kind::Vertex => b"vertex",
+        Kind::Edge => b"edge",
+        Kind::Face => b"face",
+        Kind::Cell => b"cell",
+    }
+}
+
+/// The word for a kind of trap.
+pub fn trap_word(kind: TrapKind) -> &'static [u8]
+    ensures word { result.now ≡ TrapWord kind }
+    ensures short { length result.now ≤ 10 }
+{
+    match kind {
+        TrapKind::Overflow => b"Overflow",
+        TrapKind::ZeroDivide => b"ZeroDivide",
+        TrapKind::NilElement => b"NilElement",
+        TrapKind::Spent => b"Spent",
+        TrapKind::Prints => b"Prints",
     }
 }
