@@ -6,7 +6,7 @@ use Rattle.liszt_base.specs.declared.answers.Place.{Place}
 use Rattle.liszt_base.specs.declared.answers.ProgramFault.{ProgramFault}
 use Rattle.liszt_base.specs.declared.elements.Kind.{Kind}
 use Rattle.liszt_tree.specs.declared.tree.How.{How}
-use Rattle.liszt_tree.specs.Tree.{Expression, Body, MainItem, MainField, MainVar, MainAssign, MainIf, MainWhile, MainFor, Print, Main, no_item, item}
+use Rattle.liszt_tree.specs.Tree.{Expression, MainItem, MainField, MainVar, MainAssign, MainIf, MainWhile, MainFor, Print, Main, no_item, item}
 use Rattle.resolved_code.specs.declared.expressions.NumberCode.{NumberCode}
 use Rattle.resolved_code.specs.declared.expressions.TruthCode.{TruthCode}
 use Rattle.resolved_code.specs.declared.items.BlockCode.{BlockCode}
@@ -16,13 +16,13 @@ use Rattle.phase_types.specs.declared.resolution.Resolution.{Resolution}
 use Rattle.phase_types.specs.declared.resolution.Resolution.TheVariants as resolution
 use Rattle.phase_types.specs.declared.state.CheckedProgram.{CheckedProgram}
 use Rattle.phase_types.specs.declared.state.MainState.{MainState}
-use Rattle.phase_types.specs.Checked.{main_number, main_truth, declared_field, declared_scalar, first_state, declares_field, declares_scalar, with_comprehension_code, opens_block, closes_block, assigned_scalar, block_code, else_block, resolved_item, resolved_items, checked_program}
-use Rattle.phase_types.specs.Environments.{Environment, Binding, ScalarName, LocalName, ElementName, binding_of, first_declared, Part, IsPrefix, BindsParts, Site, start, next_field, next_scalar, next_comprehension, next_scope, block_start, after_block, has_else_block, after_item, after_main}
+use Rattle.phase_types.specs.Checked.{main_number, main_truth, declared_field, declared_scalar, first_state, declares_field, declares_scalar, opens_block, closes_block, assigned_scalar, else_block, resolved_item, resolved_items, checked_program}
+use Rattle.phase_types.specs.Environments.{LocalName, ElementName, first_declared, Part, IsPrefix, BindsParts, Site, start, next_scope, block_start, after_block, has_else_block, after_item, after_main}
 use Rattle.phase_types.specs.Resolve.{resolution_of, new_name, resolved_comprehension}
 use Rattle.phase_types.proofs.BindingLemmas.{start_binds, item_binds, block_binds, binds_later}
-use Rattle.phase_types.proofs.CheckedLemmas.{Finds, Follows, opened, closed, start_follows, item_found, items_found, same_length}
-use Rattle.phase_types.proofs.PartLemmas.{same_parts, prefix_of_prefix, item_is_prefix, main_is_prefix, next_part}
-use Rattle.phase_types.proofs.ResolveLemmas.{binding_in, Agrees}
+use Rattle.phase_types.proofs.CheckedLemmas.{Finds, Follows, opened, closed, start_follows, item_found, same_length}
+use Rattle.phase_types.proofs.PartLemmas.{same_parts, prefix_of_prefix, main_is_prefix, next_part}
+use Rattle.phase_types.proofs.ResolveLemmas.{binding_in}
 use Rattle.kernel_eval.proofs.ResolvingLemmas.{IfOk, ok_then, ok_weaken, in_sequence}
 use Rattle.seq_meaning.specs.MainCode.{IsNumberCode, IsTruthCode, IsCode, NoCode, FieldCode, VarCode, AssignCode, IfCode, IfElseCode, WhileCode, ForCode, PrintCode}
 use Rattle.seq_meaning.proofs.MainCodeLemmas.{IsOfMain, any_ok, number_code, truth_code}

@@ -21,7 +21,6 @@ use Rattle.resolved_code.specs.declared.expressions.NumberCode.{NumberCode}
 use Rattle.resolved_code.specs.declared.expressions.NumberCode.TheVariants as number
 use Rattle.resolved_code.specs.declared.expressions.NumberLink.{NumberLink}
 use Rattle.resolved_code.specs.declared.expressions.TruthCode.{TruthCode}
-use Rattle.resolved_code.specs.declared.expressions.TruthCode.TheVariants as truth
 use Rattle.resolved_code.specs.declared.expressions.TruthLink.{TruthLink}
 use Rattle.phase_types.specs.declared.resolution.ChainCode.{ChainCode}
 use Rattle.phase_types.specs.declared.resolution.ChainCode.TheVariants as chain
@@ -30,14 +29,14 @@ use Rattle.phase_types.specs.declared.resolution.Resolution.TheVariants as resol
 use Rattle.phase_types.specs.declared.resolution.TypedCode.{TypedCode}
 use Rattle.phase_types.specs.declared.resolution.TypedCode.TheVariants as typed
 use Rattle.phase_types.specs.Checked.{main_number as resolved_main_number, main_truth as resolved_main_truth}
-use Rattle.phase_types.specs.Environments.{Environment, Binding, ScalarName, binding_of}
+use Rattle.phase_types.specs.Environments.{Environment, ScalarName, binding_of}
 use Rattle.phase_types.specs.Resolve.{Names, Accesses, resolution_of, with_access, resolved_name, named_field, element_of_kind, called_code, towards_code, comparison_code, negated, inverted, arithmetic_of, connective_of, number_link as numbers_link, truth_link as truths_link, first_of_chain, extended_chain, number_chain, truth_chain, whole_chain, resolved_expression, resolved_links, number_in as expected_number, truth_in as expected_truth, resolved_number, resolved_truth}
-use Rattle.phase_types.specs.Walk.{Subject, OfScalar, place_of}
+use Rattle.phase_types.specs.Walk.{OfScalar, place_of}
 use Rattle.phase_types.proofs.ResolveLemmas.{binding_in, Agrees}
 use Rattle.code_eval.specs.Arithmetic.{is_in_range, in_range, divided, arithmetic_result, holds}
-use Rattle.code_eval.specs.Stops.{Stop, NoMeaning}
+use Rattle.code_eval.specs.Stops.{NoMeaning}
 use Rattle.kernel_eval.specs.Meaning.{Value, NumberValue, TruthValue, number_of, truth_of, trap, checked_number, checked_division, operator_result, is_decided, negation, complement, comparison_result, global_read, scalar_read, meaning, links_meaning, number_in, truth_in}
-use Rattle.kernel_eval.specs.Outcomes.{Outcome, Computation, pure, halt, continue_with, and_then, if_then_else}
+use Rattle.kernel_eval.specs.Outcomes.{Outcome, pure, continue_with, and_then, if_then_else}
 use Rattle.kernel_eval.specs.States.{State, EvaluationState, scalar_value, main_evaluation}
 use Rattle.kernel_eval.proofs.ResolvingLemmas.{IfOk, ok_then, ok_weaken, in_sequence}
 use Rattle.seq_meaning.specs.MainCode.{HoldScalars, IsAnswerOf, IsNumberCode, IsTruthCode}
@@ -166,11 +165,11 @@ module _ (mesh : MeshLists) (environment : Environment) (names : Names) (agrees 
   name_answers place name accesses (Some (resolution.Element slot kind)) e of = absurd of
   name_answers place name accesses (Some (resolution.Scalar scalar)) e of =
       ok_then (λ later. Unit {0}) (λ r. Answers (Name place name) r.0) (with_access accesses (OfScalar scalar) _ place) _ (any_ok (with_access accesses (OfScalar scalar) _ place)) (λ later any. scalar_answers) where
-    bound : binding_of environment name ≡ Some (ScalarName scalar)
-    bound = sym (agrees.each name) ∙ ap (option_map binding_in) e
+        bound : binding_of environment name ≡ Some (ScalarName scalar)
+        bound = sym (agrees.each name) ∙ ap (option_map binding_in) e
 
-    scalar_answers : Answers (Name place name) (typed.Number (number.Scalar scalar))
-    scalar_answers = record { outcome = same_outcome (ap (λ global. global_read global m) bound) (read_gives scalar (scalar_value s scalar) refl).outcome }
+        scalar_answers : Answers (Name place name) (typed.Number (number.Scalar scalar))
+        scalar_answers = record { outcome = same_outcome (ap (λ global. global_read global m) bound) (read_gives scalar (scalar_value s scalar) refl).outcome }
 
   -- operands that are elements do not occur
   no_field : (arg : Expression) (operand : TypedCode) (kind : Kind) (place : Place) {B : Type 0} (P : B → Type 0) (next : _ → Result B ProgramFault) → Answers arg operand

@@ -1,5 +1,5 @@
 -- The code of a main program, item by item. This project's own.
-use Rattle.std.specs.Prelude.{◌≡◌, ◌⊎◌, ℕ, Bool, true, false, Option, Some, None, List, [], ◌∷◌, slice_get, ℤ, Err}
+use Rattle.std.specs.Prelude.{◌≡◌, ◌⊎◌, ℕ, Bool, true, false, Some, None, List, [], ◌∷◌, slice_get, ℤ, Err}
 use Rattle.liszt_base.specs.MeshLists.{MeshLists}
 use Rattle.liszt_base.specs.declared.answers.Place.{Place}
 use Rattle.liszt_base.specs.declared.elements.Kind.{Kind}

@@ -1,6 +1,6 @@
 //! Laws of the definitions, each the contract of a function that does nothing.
 
-ghost use Rattle.std.specs.Prelude.{◌≡◌, ◌≤◌, ℕ, List, is_some, length, true};
+ghost use Rattle.std.specs.Prelude.{◌≡◌, ◌≤◌, ℕ, List, Ok, is_some, length, true};
 ghost use Rattle.liszt_base.specs.MeshLists.{MeshLists};
 ghost use Rattle.liszt_base.specs.Corners.{IsMesh};
 ghost use Rattle.mesh_topology.specs.Elements.{corner_lists};
@@ -8,11 +8,14 @@ ghost use Rattle.liszt_base.specs.declared.answers.Place.{Place};
 ghost use Rattle.liszt_base.specs.declared.answers.TrapKind.TheVariants.{Spent};
 ghost use Rattle.liszt_tree.specs.Tree.{Expression, Main, MainWhile};
 ghost use Rattle.kernel_eval.specs.Meaning.{trap};
-ghost use Rattle.phase_types.specs.Environments.{Comprehension, Site, block_start, next_scope};
+ghost use Rattle.phase_types.specs.Checked.{checked_program};
+ghost use Rattle.phase_types.specs.declared.state.CheckedProgram.{CheckedProgram as Parts};
+ghost use Rattle.phase_types.specs.Environments.{Comprehension, Site, block_start, next_scope, parts_of, start};
 ghost use Rattle.phase_types.specs.Typed.{ComprehensionFits, IsTyped};
 ghost use Rattle.phase_types.specs.Walk.{OfField, mode_in};
 ghost use Rattle.kernel_eval.specs.Preservation.{ChangesNothing, Commutes, field_values, loop_unfolded};
 ghost use Rattle.kernel_eval.specs.States.{State, field_lengths, known_scalars};
+ghost use Rattle.seq_meaning.specs.MainCode.{IsCode};
 ghost use Rattle.seq_meaning.specs.Runs.{Entry, Progress, comprehension, in_program, in_scope, item_meaning, iterations, main_meaning, program_turns, run_end, truth_at, with_earlier_path};
 
 /// A comprehension changes no field that it does not write or reduce, and does not change the turns of the main program.
@@ -61,4 +64,11 @@ pub fn typed_programs_end()
     ensures { (mesh : MeshLists) (program : Main) (turns : ℕ)
         → IsMesh (length mesh.points) (corner_lists mesh) → IsTyped program
         → is_some (run_end mesh program turns) ≡ true }
+{}
+
+/// The code of a checked program is that of its items, from the start of the program: each item has its code, with the numbers of the
+/// part that it declares, and the code of each expression gives its answer.
+pub fn checked_programs_are_code()
+    ensures { (program : Main) (checked : Parts) → checked_program program ≡ Ok checked
+        → IsCode (parts_of program) start program checked.items }
 {}
