@@ -103,7 +103,7 @@ scalar_after scalar value [] = value
 scalar_after scalar value (folded ∷ rest) =
     scalar_after scalar (if scalar == folded.scalar then option_map (λ old. fold folded.op old folded.value) value else value) rest
 
-updated : (scalar : ℕ) (value old : ℤ) (scalars : List (ℕ × ℤ)) → lookup (λ other. other == scalar) scalars ≡ Some old
+pub updated : (scalar : ℕ) (value old : ℤ) (scalars : List (ℕ × ℤ)) → lookup (λ other. other == scalar) scalars ≡ Some old
     → lookup (λ other. other == scalar) (map_update (λ other. other == scalar) value scalars) ≡ Some value
 updated scalar value old [] e = absurd cc
 updated scalar value old (entry ∷ scalars) e = elim (cases_Bool (entry.0 == scalar)) [
@@ -111,7 +111,7 @@ updated scalar value old (entry ∷ scalars) e = elim (cases_Bool (entry.0 == sc
   | inr is ↦ rw (is, is) (updated scalar value old scalars (rw is at e))
 ]
 
-not_updated : (scalar other : ℕ) (value : ℤ) → (other ≡ scalar → ⊥) → (scalars : List (ℕ × ℤ))
+pub not_updated : (scalar other : ℕ) (value : ℤ) → (other ≡ scalar → ⊥) → (scalars : List (ℕ × ℤ))
     → lookup (λ number. number == other) (map_update (λ number. number == scalar) value scalars) ≡ lookup (λ number. number == other) scalars
 not_updated scalar other value apart [] = refl
 not_updated scalar other value apart (entry ∷ scalars) = grind (arith, nat_tests, not_updated scalar other value apart scalars)

@@ -9,4 +9,4 @@ mod locals;
 
 pub use code_eval::Words;
 pub use iteration::run_iteration;
-pub use locals::Locals;
+pub use locals::{Locals, zeros};

@@ -46,7 +46,7 @@ fn most_elements(codes: &[ComprehensionCode]) -> usize
 }
 
 /// A list of zeros.
-fn zeros(alloc: Global, count: usize) -> Result<Items<i64>, NoMemory>
+pub fn zeros(alloc: Global, count: usize) -> Result<Items<i64>, NoMemory>
     ensures { IfOk result (λ list. length list ≡ count) }
 {
     let mut list = Items::new(alloc);

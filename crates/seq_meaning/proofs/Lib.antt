@@ -1,8 +1,12 @@
 pub mod IterationLemmas
 pub mod ItemCodeLemmas
 pub mod MainCodeLemmas
+pub mod MainHereLemmas
+pub mod MainItemLemmas
 pub mod MainPreservationLemmas
 pub mod MainValueLemmas
+pub mod MainStepLemmas
+pub mod NestingLemmas
 pub mod PathLemmas
 pub mod StateShapeLemmas
 pub mod TypedRunLemmas

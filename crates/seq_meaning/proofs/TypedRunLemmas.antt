@@ -38,7 +38,7 @@ record IsFresh (site : Site) : Type 0 where
   pub fields : (name : List ℕ) (number : ℕ) (kind : Kind) → binding_of site.environment name ≡ Some (FieldName number kind) → number < next_field site
   pub scalars : (name : List ℕ) (number : ℕ) → binding_of site.environment name ≡ Some (ScalarName number) → number < next_scalar site
 
-more_of : {A : Type 0} (sort : Part → Option A) (before after : List Part) → IsPrefix before after → length (filter_map sort before) ≤ length (filter_map sort after)
+pub more_of : {A : Type 0} (sort : Part → Option A) (before after : List Part) → IsPrefix before after → length (filter_map sort before) ≤ length (filter_map sort after)
 more_of sort before after on =
     omega (arith, ap (λ parts. length (filter_map sort parts)) on.appended, ap (λ xs. length xs) (filter_map-append sort before on.rest), length-append (filter_map sort before) (filter_map sort on.rest))
 

@@ -1,4 +1,5 @@
 pub mod Internal
 pub mod MainCode
+pub mod MainRuns
 pub mod MainValues
 pub mod Runs

@@ -3,4 +3,5 @@
 
 mod cases;
 pub mod laws;
+mod main_run;
 mod values;
