@@ -1,5 +1,6 @@
 pub mod AnswerLemmas
 pub mod EndLemmas
+pub mod LastWordLemmas
 pub mod LayoutLemmas
 pub mod MapLemmas
 pub mod RuleLemmas

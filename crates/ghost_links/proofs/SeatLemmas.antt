@@ -13,7 +13,7 @@ use Rattle.ghost_links.specs.Ends.{end_in, receiving_end, sending_end}
 use Rattle.ghost_links.specs.LinkRule.{FitsLayout, FollowsRule}
 use Rattle.ghost_links.specs.Views.{opening_view}
 use Rattle.ghost_links.specs.Holdings.{Holding, IsSeat, LinkTable, has_idle, holding, is_idle, next_number, next_of, next_packet}
-use Rattle.ghost_links.specs.Internal.Plays.{LoadsData, ReceiverLoads, ReceiverStores, SeatState, SenderLoads, SenderStores, SetsScript, StoresData}
+use Rattle.ghost_links.specs.Steps.{LoadsData, ReceiverLoads, ReceiverStores, SeatState, SenderLoads, SenderStores, SetsScript, StoresData}
 use Rattle.ghost_links.specs.Internal.Stages.{FindsTurn, HasDataPlace, HasPut, IsDataWord, NextFits, busy_of, is_busy, is_some, put_of, words_put}
 use Rattle.ghost_links.proofs.LayoutLemmas.{data_is_a_word, link_below, turn_is_a_word}
 use Rattle.ghost_links.proofs.StepLemmas.{clear_store_keeps, data_load_keeps, data_store_keeps, post_store_keeps, receiver_load_keeps, sender_load_keeps, set_script_keeps, some_turn}

@@ -18,7 +18,7 @@ use Rattle.ghost_links.specs.Ends.{all_ends, busy_end, end_in, idle_end, is_end,
 use Rattle.ghost_links.specs.Views.{changed_view, counted_view, after_turn_store, first_view, handed_view, is_even, joined_view, kept_view, after_data_store, opening_view, after_receiver_load, after_sender_load, spent_view}
 use Rattle.ghost_links.specs.LinkRule.{EndFits, FitsLayout, FollowsRule, HavePacket, HaveWords, IsLinked, PutsPacket, ReceiverFits, SenderFits, TableState, ViewFits, total}
 use Rattle.ghost_links.specs.Holdings.{IsSeat}
-use Rattle.ghost_links.specs.Internal.Plays.{SeatState, LoadsData, ReceiverLoads, ReceiverStores, SenderLoads, SenderStores, SetsScript, StoresData}
+use Rattle.ghost_links.specs.Steps.{SeatState, LoadsData, ReceiverLoads, ReceiverStores, SenderLoads, SenderStores, SetsScript, StoresData}
 use Rattle.ghost_links.proofs.LayoutLemmas.{data_apart, data_is_a_word, end_of_receiver, end_of_sender, link_below, turn_is_a_word, turn_is_no_data}
 use Rattle.ghost_links.proofs.MapLemmas.{each_append, each_changed, each_of_none, each_restriction, new_end, no_new_end, occurrences_in_append, occurrences_in_changed, occurrences_in_restriction, occurrences_of_end, occurrences_of_new}
 use Rattle.ghost_links.proofs.SumLemmas.{total_at, total_set, total_snoc, total_two}

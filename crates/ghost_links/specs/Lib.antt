@@ -5,4 +5,5 @@ pub mod Layouts
 pub mod LinkRule
 pub mod Packets
 pub mod Scripts
+pub mod Steps
 pub mod Views

@@ -1,6 +1,6 @@
 //! What the definitions of links say, each law the contract of a function that does nothing.
 
-ghost use Rattle.std.specs.Prelude.{◌≡◌, ◌≢◌, ◌↔◌, ◌+◌, ◌*◌, ◌%◌, ◌<◌, ◌≤◌, ◌^◌, ℕ, true, false, cond, eqb, List, [], ◌∷◌, length, slice_index, slice_index_or};
+ghost use Rattle.std.specs.Prelude.{◌≡◌, ◌≢◌, ◌↔◌, ◌+◌, ◌*◌, ◌%◌, ◌<◌, ◌≤◌, ◌^◌, ℕ, true, false, cond, eqb, List, [], ◌∷◌, length, slice_get, slice_index, slice_index_or};
 ghost use Rattle.std.specs.declared.option.Option.TheVariants.{None, Some};
 ghost use mathlib.Core.Option.{some};
 ghost use lib.ListN.{get_elem?};
@@ -16,6 +16,7 @@ ghost use Rattle.ghost_links.specs.Ends.{end_in, idle_end, is_end, occurrences, 
 ghost use Rattle.ghost_links.specs.LinkRule.{FollowsRule, HavePacket, IsInOneView, IsLinked, PutsPacket, TableState};
 ghost use Rattle.ghost_links.specs.Holdings.{ChangedOneEnd, HasLink, Holding, IsSeat, LinkTable, Posts, Takes, after_join, after_split, first_holding, handed_holding, has_idle, last_word, posted_count, receiver, sender, taken_count};
 ghost use Rattle.ghost_links.specs.Packets.{PacketWords};
+ghost use Rattle.ghost_links.specs.Steps.{HasLoadedWords, RunSeat, Runs};
 
 /// All views but those of seats that were joined away have one script; a view that was joined away has no end. The packets of each link
 /// are fewer than 2^62, and each fits its link. Each end of each link is in one view. At turn word 2n both ends have next number
@@ -83,6 +84,13 @@ pub fn answers_by_the_loaded_word()
     ensures take_step { (link x word : ℕ) (h k : Holding) (old new : PacketWords)
         → has_idle h x ≡ true → Takes link x (TakeNotYet word) h k old new
         → (last_word k x ≡ Some word) × (k.steps ≡ h.steps + 1) }
+{}
+
+/// In each run of a table, whatever the order of the steps of its seats, the last word of an end of a seat is the word that the table had
+/// at the last load at that end; before the first load there is none.
+pub fn last_words_are_loaded()
+    ensures { (words : List ℕ) (seats : List RunSeat) → Runs words seats → (k : ℕ)
+        (seat : RunSeat) → slice_get seats k ≡ Some seat → HasLoadedWords seat }
 {}
 
 /// A post or a take changes no end but its own, which is idle again. Its next number rises by one exactly where a packet was posted or

@@ -44,7 +44,7 @@ pub(crate) struct SetScript<A> {
 }
 
 impl<A: SetPackets> Play<(), View> for SetScript<A> {
-    ghost use Rattle.ghost_links.specs.Internal.Plays.{SetsScript};
+    ghost use Rattle.ghost_links.specs.Steps.{SetsScript};
 
     ghost then = { SetsScript A.layout A.packets };
 }
@@ -52,7 +52,7 @@ impl<A: SetPackets> Play<(), View> for SetScript<A> {
 pub(crate) struct SenderLoad;
 
 impl Play<(), View> for SenderLoad {
-    ghost use Rattle.ghost_links.specs.Internal.Plays.{SenderLoads};
+    ghost use Rattle.ghost_links.specs.Steps.{SenderLoads};
 
     ghost then = { SenderLoads };
 }
@@ -60,7 +60,7 @@ impl Play<(), View> for SenderLoad {
 pub(crate) struct ReceiverLoad;
 
 impl Play<(), View> for ReceiverLoad {
-    ghost use Rattle.ghost_links.specs.Internal.Plays.{ReceiverLoads};
+    ghost use Rattle.ghost_links.specs.Steps.{ReceiverLoads};
 
     ghost then = { ReceiverLoads };
 }
@@ -83,7 +83,7 @@ pub(crate) struct DataStore<A> {
 }
 
 impl<A: DataPlace> Play<(), View> for DataStore<A> {
-    ghost use Rattle.ghost_links.specs.Internal.Plays.{StoresData};
+    ghost use Rattle.ghost_links.specs.Steps.{StoresData};
 
     ghost then = { StoresData A.link };
 }
@@ -93,7 +93,7 @@ pub(crate) struct DataLoad<A> {
 }
 
 impl<A: DataPlace> Play<(), View> for DataLoad<A> {
-    ghost use Rattle.ghost_links.specs.Internal.Plays.{LoadsData};
+    ghost use Rattle.ghost_links.specs.Steps.{LoadsData};
 
     ghost then = { LoadsData A.link A.place };
 }
@@ -101,7 +101,7 @@ impl<A: DataPlace> Play<(), View> for DataLoad<A> {
 pub(crate) struct SenderStore;
 
 impl Play<(), View> for SenderStore {
-    ghost use Rattle.ghost_links.specs.Internal.Plays.{SenderStores};
+    ghost use Rattle.ghost_links.specs.Steps.{SenderStores};
 
     ghost then = { SenderStores };
 }
@@ -109,7 +109,7 @@ impl Play<(), View> for SenderStore {
 pub(crate) struct ReceiverStore;
 
 impl Play<(), View> for ReceiverStore {
-    ghost use Rattle.ghost_links.specs.Internal.Plays.{ReceiverStores};
+    ghost use Rattle.ghost_links.specs.Steps.{ReceiverStores};
 
     ghost then = { ReceiverStores };
 }

@@ -17,7 +17,7 @@ use Rattle.liszt_io.proofs.PieceLemmas.{append_known-append}
 use Rattle.liszt_report.specs.Endings.{value_line, field_text}
 
 -- the texts of numbers from a on, and of more of them
-range_parts : {X : Type 0} (f : ℕ → List X) (a n m : ℕ) → flat_map f (range_with_len a (n + m)) ≡ flat_map f (range_with_len a n) ++ flat_map f (range_with_len (a + n) m)
+pub range_parts : {X : Type 0} (f : ℕ → List X) (a n m : ℕ) → flat_map f (range_with_len a (n + m)) ≡ flat_map f (range_with_len a n) ++ flat_map f (range_with_len (a + n) m)
 range_parts f a zero m = rw (zero-add m, add-zero a) refl
 range_parts f a (suc n) m =
     let more : suc n + m ≡ suc (n + m) = omega arith in

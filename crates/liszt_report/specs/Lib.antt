@@ -1,1 +1,4 @@
 pub mod Endings
+pub mod FieldValues
+pub mod Internal
+pub mod Texts

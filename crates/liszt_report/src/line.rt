@@ -1,4 +1,5 @@
 ghost use Rattle.std.specs.Prelude.{◌≡◌, ◌+◌, ◌<◌, ◌≤◌, ◌^◌, [], ◌++◌, length};
+ghost use Rattle.std.specs.Fmt.{decimal};
 ghost use Rattle.liszt_report.specs.declared.ended.Ended.TheVariants.{Program as OfProgram, Mesh as OfMesh, Trap as OfTrap};
 ghost use Rattle.liszt_report.specs.Endings.{ending_text, value_line, limit_line, limit_word, comprehension_text, place_text, site_text};
 
@@ -159,12 +160,22 @@ fn append_limit_word(line: &mut LineBuf, what: LimitWhat)
     }
 }
 
+/// Appends a word and a count.
+pub fn append_counted(line: &mut LineBuf, word: &[u8], count: u32)
+    requires old { length line.old ≤ 200 }
+    requires word { length word.now ≤ 16 }
+    ensures text { line.new ≡ line.old ++ (word.now ++ decimal count) }
+    ensures short { length line.new ≤ length line.old + length word.now + 20 }
+{
+    line.text(word);
+    line.count(u64::from(count));
+}
+
 /// Appends ` comp K`.
 fn append_comprehension(line: &mut LineBuf, comprehension: u32)
     requires { length line.old ≤ 110 }
     ensures text { line.new ≡ line.old ++ comprehension_text comprehension }
     ensures short { length line.new ≤ length line.old + 26 }
 {
-    line.text(b" comp ");
-    line.count(u64::from(comprehension));
+    append_counted(line, b" comp ", comprehension);
 }

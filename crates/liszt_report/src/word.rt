@@ -1,7 +1,8 @@
 ghost use Rattle.std.specs.Prelude.{◌≡◌, ◌≤◌, length};
 ghost use Rattle.liszt_report.specs.Endings.{mesh_file_word as MeshFileWord, input_word as InputWord, program_word as ProgramWord, mesh_word as MeshWord, kind_word as KindWord, trap_word as TrapWord};
+ghost use Rattle.liszt_report.specs.Texts.{op_word as OpWord, mode_word as ModeWord};
 
-use liszt_base::{Input, Kind, MeshFile, MeshWhat, ProgramWhat, TrapKind};
+use liszt_base::{Input, Kind, MeshFile, MeshWhat, Mode, Op, ProgramWhat, TrapKind};
 
 /// The word for a file of a mesh.
 pub fn mesh_file_word(file: MeshFile) -> &'static [u8]
@@ -93,5 +94,33 @@ pub fn trap_word(kind: TrapKind) -> &'static [u8]
         TrapKind::NilElement => b"NilElement",
         TrapKind::Spent => b"Spent",
         TrapKind::Prints => b"Prints",
+    }
+}
+
+/// The word for an operator.
+fn op_word(op: Op) -> &'static [u8]
+    ensures word { result.now ≡ OpWord op }
+    ensures short { length result.now ≤ 5 }
+{
+    match op {
+        Op::Add => b"add",
+        Op::Mul => b"mul",
+        Op::And => b"and",
+        Op::Or => b"or",
+        Op::Xor => b"xor",
+        Op::Min => b"min",
+        Op::Max => b"max",
+    }
+}
+
+/// The word for a mode.
+pub fn mode_word(mode: Mode) -> &'static [u8]
+    ensures word { result.now ≡ ModeWord mode }
+    ensures short { length result.now ≤ 5 }
+{
+    match mode {
+        Mode::Read => b"read",
+        Mode::Write => b"write",
+        Mode::Reduce(op) => op_word(op),
     }
 }
