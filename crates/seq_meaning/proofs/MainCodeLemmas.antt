@@ -49,7 +49,7 @@ IsOfMain (Some (resolution.Number slot)) = ⊥
 IsOfMain (Some (resolution.Element slot kind)) = ⊥
 IsOfMain _ = Unit {0}
 
-got : (xs : List ℤ) (i : ℕ) (x : ℤ) → slice_get xs i ≡ Some x → get_or xs i (pos 0) ≡ x
+pub got : (xs : List ℤ) (i : ℕ) (x : ℤ) → slice_get xs i ≡ Some x → get_or xs i (pos 0) ≡ x
 got [] i x e = absurd cc
 got (y ∷ xs) zero x e = cc
 got (y ∷ xs) (suc i) x e = got xs i x e

@@ -1,26 +1,40 @@
 -- One item of the main program, by its code.
-use Rattle.std.proofs.Common.{◌≡◌, ◌≢◌, ◌<◌, ◌≤◌, ℕ, suc, ◌+◌, Bool, true, false, List, [], ◌∷◌, ◌++◌, length, take, drop, replicate, refl, sym, ap, subst, ◌∙◌, arith}
+use Rattle.std.proofs.Common.{◌≡◌, ◌≢◌, ◌<◌, ◌≤◌, ℕ, suc, ◌+◌, Bool, true, false, List, [], ◌∷◌, ◌++◌, length, take, drop, replicate, append_assoc, refl, sym, ap, subst, ◌∙◌, arith}
+use Rattle.std.proofs.lemmas.Bool.{lt-ltb, le-ltb}
 use Rattle.std.proofs.lemmas.Option.{slice_get_within}
+use Rattle.std.proofs.Math.Nat.{le-max_left}
 use Rattle.std.specs.List.{slice_set}
-use Rattle.std.specs.Prelude.{Option, Some, None, slice_get, ℤ, Result, Ok, Err}
+use Rattle.std.specs.Option.{option_and_then}
+use Rattle.std.specs.Prelude.{Option, Some, None, slice_get, get_or, nat_lt, max, ℤ, pos, Result, Ok, Err}
+use Rattle.liszt_base.specs.Limits.{print_limit}
+use Rattle.liszt_base.specs.declared.answers.Place.{Place}
 use Rattle.liszt_base.specs.declared.answers.Trap.{Trap}
+use Rattle.liszt_base.specs.declared.answers.TrapKind.TheVariants.{Prints}
+use Rattle.liszt_tree.specs.declared.tree.How.{How}
 use Rattle.liszt_base.specs.declared.elements.Kind.{Kind}
-use Rattle.liszt_tree.specs.Tree.{Expression, MainItem, MainField, MainVar, Main, item}
+use Rattle.liszt_tree.specs.Tree.{Expression, MainItem, MainField, MainVar, MainIf, MainWhile, MainFor, Main, item}
 use Rattle.mesh_topology.specs.Elements.{count}
 use Rattle.resolved_code.specs.declared.expressions.NumberCode.{NumberCode}
-use Rattle.resolved_code.specs.declared.items.ItemCode.{ItemCode}
+use Rattle.resolved_code.specs.declared.expressions.TruthCode.{TruthCode}
+use Rattle.resolved_code.specs.declared.items.BlockCode.{BlockCode}
+use Rattle.resolved_code.specs.declared.items.ItemCode.{ItemCode, out-ItemCode}
+use Rattle.resolved_code.specs.declared.items.ItemCode.TheOpen.{ItemCode-F}
 use Rattle.resolved_code.specs.declared.items.ItemCode.TheVariants as code
-use Rattle.phase_types.specs.Environments.{Part, FieldPart, ScalarPart, IsPrefix, Site, field_part, scalar_part, fields_in, scalars_in, next_field, next_scalar, after_item}
-use Rattle.phase_types.proofs.PartLemmas.{part_at}
-use Rattle.kernel_eval.specs.Outcomes.{Trapped, NoMeaning, Outcome, Computation, Done, halt, ◌>>=◌, ◌>>◌}
-use Rattle.kernel_eval.specs.States.{State, known_scalars, main_evaluation}
-use Rattle.kernel_eval.specs.Meaning.{number_in, truth_in}
+use Rattle.phase_types.specs.Environments.{Comprehension, binding_of, Part, FieldPart, ScalarPart, ComprehensionPart, IsPrefix, Site, field_part, scalar_part, comprehension_part, fields_in, scalars_in, comprehensions_in, next_field, next_scalar, next_comprehension, next_scope, comprehension_at, block_start, after_block, has_else_block, after_item, after_main}
+use Rattle.phase_types.proofs.PartLemmas.{part_at, next_part, prefix_of_prefix, main_is_prefix}
+use Rattle.kernel_eval.specs.Outcomes.{Stop, Trapped, NoMeaning, Outcome, Computation, Done, halt, skip, continue_with, if_then_else, ◌>>=◌, ◌>>◌}
+use Rattle.kernel_eval.specs.States.{State, scalar_value, with_scalar_value, known_scalars, main_evaluation}
+use Rattle.kernel_eval.specs.Meaning.{assigned_value, trap, number_in, truth_in}
 use Rattle.seq_meaning.specs.MainCode.{HoldScalars, IsNumberCode, IsTruthCode, IsCode}
-use Rattle.seq_meaning.specs.MainRuns.{Frame, MainRun, World, Descends, Stands, HasState, StandsAt, GoesOn, Reaches, Traps, Continues, HaveOneMore, AreSame, logged, next_frame}
-use Rattle.seq_meaning.specs.MainValues.{main_number, main_truth}
-use Rattle.seq_meaning.specs.Runs.{Progress, FieldDeclared, main_meaning, number_at, truth_at, modify_state, log_event, with_field, with_scalar}
-use Rattle.seq_meaning.proofs.MainHereLemmas.{Here, here, code_here, at_next, scalars_after_item, FieldHere, field_here, VarHere, var_here}
-use Rattle.seq_meaning.proofs.MainStepLemmas.{set_here, length_set, holds_new, number_changes_nothing, truth_changes_nothing, IsEvaluated, evaluated}
+use Rattle.seq_meaning.specs.MainRuns.{Frame, MainRun, World, Descends, Stands, AtItem, InBlock, block_and_rest, block_in, block_at, index_after, nested, deepest, HasState, StandsAt, GoesOn, Reaches, Traps, Continues, HaveOneMore, AreSame, logged, next_frame, CanDo, HasDone}
+use Rattle.seq_meaning.specs.declared.main_run.MainStep.TheVariants.{Enter, Declare, Comp}
+use Rattle.seq_meaning.specs.MainValues.{main_trap, main_number, main_truth}
+use Rattle.seq_meaning.specs.Runs.{Progress, ScopeOpened, in_scope, ComprehensionReached, assign_main_name, assign_main_scalar, print_number, in_program, FieldDeclared, main_meaning, number_at, truth_at, modify_state, log_event, with_field, with_scalar}
+use Rattle.seq_meaning.proofs.MainHereLemmas.{Here, here, code_here, at_next, keeps_below, scalars_after_item, FieldHere, field_here, VarHere, var_here, AssignHere, assign_here, PrintHere, print_here, ForHere, for_here, WhileHere, while_here, ElseHere, IfHere, if_here, out_if, out_while, block_descends}
+use Rattle.seq_meaning.proofs.MainCodeLemmas.{got}
+use Rattle.seq_meaning.proofs.TypedRunLemmas.{more_of, scalar_number}
+use Rattle.seq_meaning.proofs.NestingLemmas.{nested_if, nested_if_alone, nested_while, item_nested}
+use Rattle.seq_meaning.proofs.MainStepLemmas.{set_here, set_there, length_set, descends_below, holds_new, holds_assigned, known_after_assignment, take_more, length_take, number_changes_nothing, truth_changes_nothing, IsEvaluated, evaluated}
 
 -- an expression first
 pub number_first : (w : World) (scalars : List ℤ) (p : Progress) (site : Site) (e : Expression) (x : NumberCode) (next : ℤ → Computation Progress Done) (rest remaining : Computation Progress Done)
@@ -32,12 +46,29 @@ number_first w scalars p site e x next rest remaining is value held meaning =
     (ap (λ after. record { after = record p { state = after.state }; answer = (number_in w.mesh site.environment e (main_evaluation p.state)).answer }) (number_changes_nothing w.mesh site.environment e p.state))
     (value.answer w.mesh p.state scalars held) meaning) meaning
 
+pub truth_first : (w : World) (scalars : List ℤ) (p : Progress) (site : Site) (e : Expression) (x : TruthCode) (next : Bool → Computation Progress Done) (rest remaining : Computation Progress Done)
+    → remaining p ≡ ((truth_at w.mesh site e >>= next) >> rest) p → IsTruthCode site.environment e x → HoldScalars scalars p.state → (remaining p).answer ≢ Err NoMeaning
+    → IsEvaluated (main_truth scalars x) (λ b. next b >> rest) remaining p
+truth_first w scalars p site e x next rest remaining is value held meaning =
+    let g = evaluated (truth_at w.mesh site e) next rest p (truth_in w.mesh site.environment e (main_evaluation p.state)).answer (main_truth scalars x)
+    (ap (λ after. record { after = record p { state = after.state }; answer = (truth_in w.mesh site.environment e (main_evaluation p.state)).answer }) (truth_changes_nothing w.mesh site.environment e p.state))
+    (value.answer w.mesh p.state scalars held) (λ none. meaning (ap (λ outcome. outcome.answer) is ∙ none)) in
+    record { has_meaning = g.has_meaning; value = λ b e. is ∙ g.value b e; trap = λ t e. is ∙ g.trap t e }
+
+-- three computations in sequence
+pub regrouped : (first second third : Computation Progress Done) (p : Progress) → ((first >> second) >> third) p ≡ (first >> (second >> third)) p
+regrouped first second third p = go (first p).after (first p).answer where
+  go : (after : Progress) (answer : Result Done Stop) → continue_with (λ done. third) (continue_with (λ done. second) after answer).after (continue_with (λ done. second) after answer).answer
+      ≡ continue_with (λ done. second >> third) after answer
+  go after (Ok done) = refl
+  go after (Err stop) = refl
+
 module _ (w : World) (r : MainRun) (level : ℕ) (outside : List ℕ) (items : List ItemCode) (p : Progress) (remaining : Computation Progress Done) (s : StandsAt w r level outside items p remaining)
     (innermost : suc level ≡ r.depth) (frame : Frame) (at : slice_get r.frames level ≡ Some frame) (next : Frame) (next_is : next ≡ next_frame frame) where
   abbrev after_move : MainRun
   after_move = record r { frames = slice_set r.frames level next }
 
-  here_now : Here w r.frames r.depth level outside items (known_scalars p.state) remaining
+  pub here_now : Here w r.frames r.depth level outside items (known_scalars p.state) remaining
   here_now = here s.stands innermost
 
   level_is : level < length r.frames
@@ -59,20 +90,439 @@ module _ (w : World) (r : MainRun) (level : ℕ) (outside : List ℕ) (items : L
     has_meaning = meaning;
   }
 
-  trapped : {A : Type 0} (t : Trap) (later : Progress) → remaining p ≡ halt (Trapped t) p → Traps w t p remaining r
-  trapped t later is = record { later = p; is = is; path = refl; prints = s.has_state.prints }
+  pub trapped : (t : Trap) → remaining p ≡ halt (Trapped t) p → Traps w t p remaining r
+  trapped t is = record { later = p; is = is; path = refl; prints = s.has_state.prints }
 
   still_means : (q : Progress) (rest : Computation Progress Done) → remaining p ≡ rest q → (rest q).answer ≢ Err NoMeaning
   still_means q rest is none = s.has_meaning (ap (λ outcome. outcome.answer) is ∙ none)
 
   -- THE DECLARATION OF A FIELD
   module _ (field : ℕ) (x : NumberCode) (c : slice_get items frame.index ≡ Some (code.Field field x)) where
-    f : FieldHere w.parts here_now.site here_now.program (drop (suc frame.index) items) field x
+    pub f : FieldHere w.parts here_now.site here_now.program (drop (suc frame.index) items) field x
     f = field_here field x (code_here here_now frame (code.Field field x) at c) refl
 
     abbrev declared_next : ℤ → Computation Progress Done
     declared_next n = modify_state (with_field (next_field here_now.site) (count w.mesh f.kind) n) >> log_event (FieldDeclared (next_field here_now.site) n)
 
-    pub field_value : IsEvaluated (main_number r.scalars x) (λ n. declared_next n >> main_meaning w.mesh w.turns (after_item here_now.site (MainField f.place f.name f.at f.kind f.init)) f.rest) remaining p
-    field_value = number_first w r.scalars p here_now.site f.init x declared_next (main_meaning w.mesh w.turns (after_item here_now.site (MainField f.place f.name f.at f.kind f.init)) f.rest) remaining
+    abbrev field_rest : Computation Progress Done
+    field_rest = main_meaning w.mesh w.turns (after_item here_now.site (MainField f.place f.name f.at f.kind f.init)) f.rest
+
+    pub field_value : IsEvaluated (main_number r.scalars x) (λ n. declared_next n >> field_rest) remaining p
+    field_value = number_first w r.scalars p here_now.site f.init x declared_next field_rest remaining
         (here_now.is ∙ ap (main_meaning w.mesh w.turns here_now.site) f.is) f.value s.has_state.scalars s.has_meaning
+
+    pub field_step : (n : ℤ) → main_number r.scalars x ≡ Ok n → GoesOn w (FieldDeclared field n) (HaveOneMore w field n) level outside items p remaining after_move
+    field_step n e = subst (λ number. GoesOn w (FieldDeclared number n) (HaveOneMore w number n) level outside items p remaining after_move) (sym f.number) record {
+      later = later;
+      rest = field_rest;
+      is = field_value.value n e;
+      path = refl;
+      fields = record {
+        index = length (fields_in here_now.site.parts);
+        info = record { name = f.name; kind = f.kind; scope = here_now.site.scope };
+        number = refl;
+        found = ap (λ parts. slice_get (fields_in parts) (length (fields_in here_now.site.parts))) f.before.appended
+            ∙ ap (λ parts. slice_get (fields_in parts) (length (fields_in here_now.site.parts))) (append_assoc here_now.site.parts (this ∷ []) f.before.rest)
+            ∙ part_at field_part here_now.site.parts f.before.rest this _ refl;
+        are = refl;
+      };
+      stands = moved after_move refl refl (logged (FieldDeclared (next_field here_now.site) n) later) (after_item here_now.site (MainField f.place f.name f.at f.kind f.init)) f.rest here_now.new
+          f.code here_now.known_is (scalars_after_item here_now.site (MainField f.place f.name f.at f.kind f.init) (known_scalars p.state) here_now.descends)
+          (record { scalars = record { holds = s.has_state.scalars.holds }; prints = s.has_state.prints; turns = s.has_state.turns; each_scalar = s.has_state.each_scalar; each_print = s.has_state.each_print; printed = s.has_state.printed })
+          (still_means (logged (FieldDeclared (next_field here_now.site) n) later) field_rest (field_value.value n e));
+    } where
+      this : Part
+      this = FieldPart (record { name = f.name; kind = f.kind; scope = here_now.site.scope })
+
+      later : Progress
+      later = record p { state = with_field (next_field here_now.site) (count w.mesh f.kind) n p.state }
+
+  -- THE DECLARATION OF A SCALAR
+  module _ (scalar : ℕ) (x : NumberCode) (c : slice_get items frame.index ≡ Some (code.Var scalar x)) where
+    pub v : VarHere w.parts here_now.site here_now.program (drop (suc frame.index) items) scalar x
+    v = var_here scalar x (code_here here_now frame (code.Var scalar x) at c) refl
+
+    abbrev scalar_next : ℤ → Computation Progress Done
+    scalar_next n = modify_state (with_scalar (next_scalar here_now.site) n)
+
+    abbrev scalar_rest : Computation Progress Done
+    scalar_rest = main_meaning w.mesh w.turns (after_item here_now.site (MainVar v.place v.name v.at v.init)) v.rest
+
+    pub scalar_value_first : IsEvaluated (main_number r.scalars x) (λ n. scalar_next n >> scalar_rest) remaining p
+    scalar_value_first = number_first w r.scalars p here_now.site v.init x scalar_next scalar_rest remaining
+        (here_now.is ∙ ap (main_meaning w.mesh w.turns here_now.site) v.is) v.value s.has_state.scalars s.has_meaning
+
+    abbrev this_part : Part
+    this_part = ScalarPart v.name
+
+    pub scalar_below : scalar < length r.scalars
+    scalar_below =
+        let found : slice_get (scalars_in w.parts) (next_scalar here_now.site) ≡ Some v.name =
+        ap (λ parts. slice_get (scalars_in parts) (next_scalar here_now.site)) v.before.appended
+        ∙ ap (λ parts. slice_get (scalars_in parts) (next_scalar here_now.site)) (append_assoc here_now.site.parts (this_part ∷ []) v.before.rest)
+        ∙ part_at scalar_part here_now.site.parts v.before.rest this_part v.name refl in
+        let l = slice_get_within (scalars_in w.parts) (next_scalar here_now.site) v.name found in
+        omega (arith, l, v.number, s.has_state.each_scalar)
+
+    pub scalar_step : (n : ℤ) → main_number r.scalars x ≡ Ok n → Continues w level outside items p remaining r (record after_move { scalars = slice_set r.scalars scalar n })
+    scalar_step n e = record {
+      later = later;
+      rest = scalar_rest;
+      is = scalar_value_first.value n e;
+      path = refl;
+      fields = refl;
+      stands = moved (record after_move { scalars = slice_set r.scalars scalar n }) refl refl later (after_item here_now.site (MainVar v.place v.name v.at v.init)) v.rest (next_scalar here_now.site ∷ here_now.new)
+          v.code (ap (λ known. next_scalar here_now.site ∷ known) here_now.known_is) (one_more_descends, here_now.descends)
+          (record {
+            scalars = subst (λ number. HoldScalars (slice_set r.scalars number n) later.state) (sym v.number) (holds_new r.scalars p.state (next_scalar here_now.site) n (subst (λ number. number < length r.scalars) v.number scalar_below) s.has_state.scalars);
+            prints = s.has_state.prints;
+            turns = s.has_state.turns;
+            each_scalar = length_set r.scalars scalar n ∙ s.has_state.each_scalar;
+            each_print = s.has_state.each_print;
+            printed = s.has_state.printed;
+          })
+          (still_means later scalar_rest (scalar_value_first.value n e));
+      depth = refl;
+    } where
+      later : Progress
+      later = record p { state = with_scalar (next_scalar here_now.site) n p.state }
+
+      one_more_descends : next_scalar here_now.site < next_scalar (after_item here_now.site (MainVar v.place v.name v.at v.init))
+      one_more_descends = omega (arith, scalar_number here_now.site v.name)
+
+  -- AN ASSIGNMENT
+  module _ (scalar : ℕ) (how : How) (x : NumberCode) (c : slice_get items frame.index ≡ Some (code.Assign scalar how x)) where
+    pub a : AssignHere w.parts here_now.site here_now.program (drop (suc frame.index) items) scalar how x
+    a = assign_here scalar how x (code_here here_now frame (code.Assign scalar how x) at c) refl
+
+    abbrev assign_next : ℤ → Computation Progress Done
+    assign_next n = assign_main_name how n (binding_of here_now.site.environment a.name)
+
+    abbrev assign_rest : Computation Progress Done
+    assign_rest = main_meaning w.mesh w.turns here_now.site a.rest
+
+    pub assign_value : IsEvaluated (main_number r.scalars x) (λ n. assign_next n >> assign_rest) remaining p
+    assign_value = number_first w r.scalars p here_now.site a.value x assign_next assign_rest remaining
+        (here_now.is ∙ ap (main_meaning w.mesh w.turns here_now.site) a.is) a.value_is s.has_state.scalars s.has_meaning
+
+    assigned_at : (n : ℤ) → main_number r.scalars x ≡ Ok n → remaining p ≡ (assign_main_scalar how n scalar (scalar_value p.state scalar) >> assign_rest) p
+    assigned_at n e = assign_value.value n e ∙ ap (λ bound. (assign_main_name how n bound >> assign_rest) p) a.bound
+
+    abbrev assigned_state : ℤ → Progress
+    assigned_state value = record p { state = with_scalar_value scalar value p.state }
+
+    record Assigned (n : ℤ) : Type 0 where
+      pub old : ℤ
+      pub known : scalar_value p.state scalar ≡ Some old
+      pub is : remaining p ≡ assign_rest (assigned_state (assigned_value how old n))
+
+    assigned_scalar : (n : ℤ) → main_number r.scalars x ≡ Ok n → Assigned n
+    assigned_scalar n e = go (scalar_value p.state scalar) refl (assigned_at n e) where
+      go : (value : Option ℤ) → scalar_value p.state scalar ≡ value → remaining p ≡ (assign_main_scalar how n scalar value >> assign_rest) p → Assigned n
+      go (Some old) known is = record { old = old; known = known; is = is }
+      go None known is = absurd (s.has_meaning (ap (λ outcome. outcome.answer) is))
+
+    pub assign_below : (n : ℤ) → main_number r.scalars x ≡ Ok n → scalar < length r.scalars
+    assign_below n e = let g = assigned_scalar n e in slice_get_within r.scalars scalar g.old (s.has_state.scalars.holds scalar g.old g.known)
+
+    pub assign_step : (n : ℤ) → main_number r.scalars x ≡ Ok n
+        → Continues w level outside items p remaining r (record after_move { scalars = slice_set r.scalars scalar (assigned_value how (get_or r.scalars scalar (pos 0)) n) })
+    assign_step n e = go (assigned_scalar n e) where
+      go : Assigned n → Continues w level outside items p remaining r (record after_move { scalars = slice_set r.scalars scalar (assigned_value how (get_or r.scalars scalar (pos 0)) n) })
+      go g = subst (λ old. Continues w level outside items p remaining r (record after_move { scalars = slice_set r.scalars scalar (assigned_value how old n) }))
+          (sym (got r.scalars scalar g.old (s.has_state.scalars.holds scalar g.old g.known))) record {
+        later = assigned_state (assigned_value how g.old n);
+        rest = assign_rest;
+        is = g.is;
+        path = refl;
+        fields = refl;
+        stands = moved (record after_move { scalars = slice_set r.scalars scalar (assigned_value how g.old n) }) refl refl (assigned_state (assigned_value how g.old n)) here_now.site a.rest here_now.new a.code
+            (known_after_assignment scalar (assigned_value how g.old n) p.state ∙ here_now.known_is)
+            (subst (Descends (next_scalar here_now.site)) (sym (known_after_assignment scalar (assigned_value how g.old n) p.state)) here_now.descends)
+            (record {
+              scalars = holds_assigned r.scalars p.state scalar (assigned_value how g.old n) g.old g.known s.has_state.scalars;
+              prints = s.has_state.prints;
+              turns = s.has_state.turns;
+              each_scalar = length_set r.scalars scalar (assigned_value how g.old n) ∙ s.has_state.each_scalar;
+              each_print = s.has_state.each_print;
+              printed = s.has_state.printed;
+            })
+            (still_means (assigned_state (assigned_value how g.old n)) assign_rest g.is);
+        depth = refl;
+      }
+
+  -- A PRINT
+  module _ (place : Place) (x : NumberCode) (c : slice_get items frame.index ≡ Some (code.Print place x)) where
+    pub q : PrintHere w.parts here_now.site here_now.program (drop (suc frame.index) items) place x
+    q = print_here place x (code_here here_now frame (code.Print place x) at c) refl
+
+    abbrev print_rest : Computation Progress Done
+    print_rest = main_meaning w.mesh w.turns here_now.site q.rest
+
+    pub print_value : IsEvaluated (main_number r.scalars x) (λ n. print_number place n >> print_rest) remaining p
+    print_value = number_first w r.scalars p here_now.site q.value x (print_number place) print_rest remaining
+        (here_now.is ∙ ap (main_meaning w.mesh w.turns here_now.site) q.is) q.value_is s.has_state.scalars s.has_meaning
+
+    abbrev print_or_trap : ℤ → Bool → Outcome Progress Done
+    print_or_trap n room = (if_then_else room (modify_state (λ s. record s { prints = s.prints ++ n ∷ [] })) (in_program (trap Prints place)) >> print_rest) p
+
+    printed_so_far : length p.state.prints ≡ r.printed
+    printed_so_far = ap (λ prints. length prints) s.has_state.prints ∙ length_take r.prints r.printed (omega (arith, s.has_state.printed, s.has_state.each_print))
+
+    print_at : (n : ℤ) → main_number r.scalars x ≡ Ok n → remaining p ≡ print_or_trap n (nat_lt r.printed print_limit)
+    print_at n e = print_value.value n e ∙ ap (λ printed. print_or_trap n (nat_lt printed print_limit)) printed_so_far
+
+    abbrev printed_state : ℤ → Progress
+    printed_state n = record p { state = record p.state { prints = p.state.prints ++ n ∷ [] } }
+
+    pub print_step : (n : ℤ) → main_number r.scalars x ≡ Ok n → r.printed < print_limit
+        → Continues w level outside items p remaining r (record after_move { prints = slice_set r.prints r.printed n; printed = suc r.printed })
+    print_step n e l = record {
+      later = printed_state n;
+      rest = print_rest;
+      is = is;
+      path = refl;
+      fields = refl;
+      stands = moved (record after_move { prints = slice_set r.prints r.printed n; printed = suc r.printed }) refl refl (printed_state n) here_now.site q.rest here_now.new q.code
+          here_now.known_is here_now.descends
+          (record {
+            scalars = record { holds = s.has_state.scalars.holds };
+            prints = ap (λ prints. prints ++ n ∷ []) s.has_state.prints ∙ sym (take_more r.prints r.printed n (omega (arith, l, s.has_state.each_print)));
+            turns = s.has_state.turns;
+            each_scalar = s.has_state.each_scalar;
+            each_print = length_set r.prints r.printed n ∙ s.has_state.each_print;
+            printed = omega (arith, l);
+          })
+          (still_means (printed_state n) print_rest is);
+      depth = refl;
+    } where
+      is : remaining p ≡ print_rest (printed_state n)
+      is = print_at n e ∙ ap (print_or_trap n) (lt-ltb r.printed print_limit l)
+
+    pub print_trap : (n : ℤ) → main_number r.scalars x ≡ Ok n → print_limit ≤ r.printed → remaining p ≡ halt (Trapped (main_trap Prints place)) p
+    print_trap n e l = print_at n e ∙ ap (print_or_trap n) (le-ltb r.printed print_limit l)
+
+  -- A COMPREHENSION
+  module _ (k : ℕ) (c : slice_get items frame.index ≡ Some (code.For k)) where
+    pub o : ForHere w.parts here_now.site here_now.program (drop (suc frame.index) items) k
+    o = for_here k (code_here here_now frame (code.For k) at c) refl
+
+    abbrev over_it : Comprehension
+    over_it = comprehension_at here_now.site o.name o.over o.body
+
+    pub reach_step : Reaches w k level outside items p remaining after_move
+    reach_step = subst (λ k. Reaches w k level outside items p remaining after_move) (sym o.number) record {
+      later = p;
+      rest = main_meaning w.mesh w.turns (after_item here_now.site (MainFor o.place o.name o.at o.over o.body)) o.rest;
+      c = over_it;
+      found = ap (λ parts. slice_get (comprehensions_in parts) (next_comprehension here_now.site)) o.before.appended
+          ∙ ap (λ parts. slice_get (comprehensions_in parts) (next_comprehension here_now.site)) (append_assoc here_now.site.parts (ComprehensionPart over_it ∷ []) o.before.rest)
+          ∙ part_at comprehension_part here_now.site.parts o.before.rest (ComprehensionPart over_it) over_it refl;
+      is = ap (λ remaining. remaining p) (here_now.is ∙ ap (main_meaning w.mesh w.turns here_now.site) o.is);
+      path = refl;
+      fields = refl;
+      stands = at_next w r.frames r.depth level outside (known_scalars p.state) here_now.new items next (after_item here_now.site (MainFor o.place o.name o.at o.over o.body)) o.rest level_is innermost
+          (next_codes (after_item here_now.site (MainFor o.place o.name o.at o.over o.body)) o.rest o.code) here_now.known_is
+          (scalars_after_item here_now.site (MainFor o.place o.name o.at o.over o.body) (known_scalars p.state) here_now.descends);
+      has_state = record { scalars = s.has_state.scalars; prints = s.has_state.prints; turns = s.has_state.turns; each_scalar = s.has_state.each_scalar; each_print = s.has_state.each_print; printed = s.has_state.printed };
+      room = omega (arith, s.room, length_set r.frames level next);
+    }
+
+  -- A BLOCK IS OPENED in the item
+  abbrev pub frame_with : Bool → Frame
+  frame_with after_else = record { index = frame.index; after_else = after_else }
+
+  abbrev pub first_frame : Frame
+  first_frame = record { index = 0; after_else = false }
+
+  abbrev pub opened_frames : Bool → List Frame
+  opened_frames after_else = slice_set (slice_set r.frames level (frame_with after_else)) (suc level) first_frame
+
+  abbrev pub after_opening : Bool → MainRun
+  after_opening after_else = record r { frames = opened_frames after_else; depth = suc (suc level) }
+
+  outer_frame : (after_else : Bool) → slice_get (opened_frames after_else) level ≡ Some (frame_with after_else)
+  outer_frame after_else =
+      set_there (slice_set r.frames level (frame_with after_else)) (suc level) level first_frame (λ same. absurd (omega (arith, same)))
+      ∙ set_here r.frames level (frame_with after_else) level_is
+
+  inner_frame : (after_else : Bool) → suc level < length r.frames → slice_get (opened_frames after_else) (suc level) ≡ Some first_frame
+  inner_frame after_else l =
+      set_here (slice_set r.frames level (frame_with after_else)) (suc level) first_frame (omega (arith, l, length_set r.frames level (frame_with after_else)))
+
+  opened_count : (after_else : Bool) → length (opened_frames after_else) ≡ length r.frames
+  opened_count after_else =
+      length_set (slice_set r.frames level (frame_with after_else)) (suc level) first_frame ∙ length_set r.frames level (frame_with after_else)
+
+  opened_block : (after : MainRun) (after_else repeated : Bool) (block : BlockCode) (q : Progress) (inner_site site : Site) (tree rest : Main) → after.frames ≡ opened_frames after_else
+      → after.depth ≡ suc (suc level) → suc level < length r.frames → block_at items (frame_with after_else) ≡ Some (record { block = block; is_repeated = repeated })
+      → known_scalars q.state ≡ known_scalars p.state → IsCode w.parts inner_site tree block.items
+      → IsCode w.parts site rest (drop (index_after (frame_with after_else) (record { block = block; is_repeated = repeated })) items)
+      → Descends (next_scalar inner_site) (known_scalars p.state) → Descends (next_scalar site) (known_scalars p.state) → HasState w after q.state
+      → (block_and_rest w q.state block.scope (main_meaning w.mesh w.turns inner_site tree) site rest (logged (ScopeOpened block.scope) q)).answer ≢ Err NoMeaning
+      → StandsAt w after level outside items (logged (ScopeOpened block.scope) q) (block_and_rest w q.state block.scope (main_meaning w.mesh w.turns inner_site tree) site rest)
+  opened_block after after_else repeated block q inner_site site tree rest frames depth l found known code rest_code inner_descends descends has_state meaning = record {
+    stands = subst (λ frames. Stands w frames after.depth level outside items (known_scalars q.state) (block_and_rest w q.state block.scope (main_meaning w.mesh w.turns inner_site tree) site rest)) (sym frames)
+        (subst (λ depth. Stands w (opened_frames after_else) depth level outside items (known_scalars q.state) (block_and_rest w q.state block.scope (main_meaning w.mesh w.turns inner_site tree) site rest)) (sym depth)
+        (InBlock (frame_with after_else) (record { block = block; is_repeated = repeated }) site rest q.state here_now.new (outer_frame after_else) found
+        (AtItem first_frame inner_site tree [] (inner_frame after_else l) refl code refl (subst (Descends (next_scalar inner_site)) (sym known) inner_descends))
+        (known ∙ here_now.known_is) (subst (Descends (next_scalar site)) (sym known) descends) rest_code));
+    has_state = record { scalars = record { holds = has_state.scalars.holds }; prints = has_state.prints; turns = has_state.turns; each_scalar = has_state.each_scalar; each_print = has_state.each_print; printed = has_state.printed };
+    room = omega (arith, s.room, ap (λ frames. length frames) frames, opened_count after_else);
+    has_meaning = meaning;
+  }
+
+  room_inside : (c : ItemCode) → slice_get items frame.index ≡ Some c → 0 < nested c → suc level < length r.frames
+  room_inside c is deep = let l = item_nested items frame.index c is in omega (arith, l, deep, s.room)
+
+  -- AN IF
+  module _ (x : TruthCode) (first : BlockCode) (second : Option BlockCode) (c : slice_get items frame.index ≡ Some (code.If x first second)) where
+    pub i : IfHere w.parts here_now.site here_now.program (drop (suc frame.index) items) x first second
+    i = if_here x first second (code_here here_now frame (code.If x first second) at c) refl
+
+    abbrev whole_if : MainItem
+    whole_if = MainIf i.place i.test i.first_tree i.second_tree i.has_else
+
+    abbrev after_first : Site
+    after_first = after_block here_now.site (after_main (block_start here_now.site) i.first_tree)
+
+    abbrev after_if : Site
+    after_if = after_item here_now.site whole_if
+
+    abbrev first_block : Computation Progress Done
+    first_block = main_meaning w.mesh w.turns (block_start here_now.site) i.first_tree
+
+    abbrev second_block : Computation Progress Done
+    second_block = main_meaning w.mesh w.turns (block_start after_first) i.second_tree
+
+    abbrev if_next : Bool → Computation Progress Done
+    if_next b = if_then_else b (in_scope (next_scope here_now.site) first_block) (if_then_else (has_else_block i.second_tree i.has_else) (in_scope (next_scope after_first) second_block) skip)
+
+    abbrev if_rest : Computation Progress Done
+    if_rest = main_meaning w.mesh w.turns after_if i.rest
+
+    pub if_value : IsEvaluated (main_truth r.scalars x) (λ b. if_next b >> if_rest) remaining p
+    if_value = truth_first w r.scalars p here_now.site i.test x if_next if_rest remaining
+        (ap (λ remaining. remaining p) (here_now.is ∙ ap (main_meaning w.mesh w.turns here_now.site) i.is)) i.value s.has_state.scalars s.has_meaning
+
+    if_nested : 0 < nested (code.If x first second)
+    if_nested = go second where
+      go : (second : Option BlockCode) → 0 < nested (code.If x first second)
+      go None = let e = nested_if_alone x first in let l : 1 + deepest first.items ≤ max (1 + deepest first.items) 0 = le-max_left (1 + deepest first.items) 0 in omega (arith, e, l)
+      go (Some block) = let e = nested_if x first block in let l : 1 + deepest first.items ≤ max (1 + deepest first.items) (1 + deepest block.items) = le-max_left (1 + deepest first.items) (1 + deepest block.items) in omega (arith, e, l)
+
+    pub if_room : suc level < length r.frames
+    if_room = room_inside (code.If x first second) c if_nested
+
+    block_of : (after_else : Bool) → block_at items (frame_with after_else) ≡ block_in (ItemCode-F.If x first second) after_else
+    block_of after_else = ap (λ item. option_and_then (λ c. block_in (out-ItemCode c) after_else) item) c ∙ ap (λ c. block_in c after_else) (out_if x first second)
+
+    same_state : HasState w r p.state → (after_else : Bool) → HasState w (after_opening after_else) p.state
+    same_state h after_else = record { scalars = h.scalars; prints = h.prints; turns = h.turns; each_scalar = h.each_scalar; each_print = h.each_print; printed = h.printed }
+
+    if_descends : Descends (next_scalar after_if) (known_scalars p.state)
+    if_descends = scalars_after_item here_now.site whole_if (known_scalars p.state) here_now.descends
+
+    pub first_step : main_truth r.scalars x ≡ Ok true → GoesOn w (ScopeOpened first.scope) AreSame level outside items p remaining (after_opening false)
+    first_step e = record {
+      later = p;
+      rest = opened;
+      is = is;
+      path = refl;
+      fields = refl;
+      stands = opened_block (after_opening false) false false first p (block_start here_now.site) after_if i.first_tree i.rest refl refl if_room (block_of false) refl i.first_code i.code
+          (block_descends here_now.site (known_scalars p.state) here_now.descends) if_descends (same_state s.has_state false) (still_means (logged (ScopeOpened first.scope) p) opened is);
+    } where
+      opened : Computation Progress Done
+      opened = block_and_rest w p.state first.scope first_block after_if i.rest
+
+      is : remaining p ≡ block_and_rest w p.state first.scope first_block after_if i.rest (logged (ScopeOpened first.scope) p)
+      is = if_value.value true e ∙ ap (λ scope. block_and_rest w p.state scope first_block after_if i.rest (logged (ScopeOpened scope) p)) (sym i.scope)
+
+    pub second_step : (block : BlockCode) → second ≡ Some block → main_truth r.scalars x ≡ Ok false → GoesOn w (ScopeOpened block.scope) AreSame level outside items p remaining (after_opening true)
+    second_step block there e = record {
+      later = p;
+      rest = opened;
+      is = is;
+      path = refl;
+      fields = refl;
+      stands = opened_block (after_opening true) true false block p (block_start after_first) after_if i.second_tree i.rest refl refl if_room
+          (block_of true ∙ ap (λ second. block_in (ItemCode-F.If x first second) true) there) refl else_here.2 i.code
+          (block_descends after_first (known_scalars p.state) first_descends) if_descends (same_state s.has_state true) (still_means (logged (ScopeOpened block.scope) p) opened is);
+    } where
+      else_here : ElseHere w.parts after_first i.second_tree i.has_else (Some block)
+      else_here = subst (ElseHere w.parts after_first i.second_tree i.has_else) there i.second_code
+
+      first_descends : Descends (next_scalar after_first) (known_scalars p.state)
+      first_descends = descends_below (next_scalar here_now.site) (next_scalar after_first) (known_scalars p.state)
+          (more_of scalar_part here_now.site.parts after_first.parts (prefix_of_prefix (next_part here_now.site.parts _) (main_is_prefix (block_start here_now.site) i.first_tree))) here_now.descends
+
+      opened : Computation Progress Done
+      opened = block_and_rest w p.state block.scope second_block after_if i.rest
+
+      is : remaining p ≡ block_and_rest w p.state block.scope second_block after_if i.rest (logged (ScopeOpened block.scope) p)
+      is = if_value.value false e ∙ ap (λ b. (if_then_else b (in_scope (next_scope after_first) second_block) skip >> if_rest) p) else_here.0
+          ∙ ap (λ scope. block_and_rest w p.state scope second_block after_if i.rest (logged (ScopeOpened scope) p)) (sym else_here.1)
+
+    pub neither_step : second ≡ None → main_truth r.scalars x ≡ Ok false → Continues w level outside items p remaining r after_move
+    neither_step there e = record {
+      later = p;
+      rest = if_rest;
+      is = is;
+      path = refl;
+      fields = refl;
+      stands = moved after_move refl refl p after_if i.rest here_now.new i.code here_now.known_is if_descends
+          (record { scalars = s.has_state.scalars; prints = s.has_state.prints; turns = s.has_state.turns; each_scalar = s.has_state.each_scalar; each_print = s.has_state.each_print; printed = s.has_state.printed })
+          (still_means p if_rest is);
+      depth = refl;
+    } where
+      none_here : ElseHere w.parts after_first i.second_tree i.has_else None
+      none_here = subst (ElseHere w.parts after_first i.second_tree i.has_else) there i.second_code
+
+      is : remaining p ≡ if_rest p
+      is = if_value.value false e ∙ ap (λ b. (if_then_else b (in_scope (next_scope after_first) second_block) skip >> if_rest) p) none_here
+
+-- WHAT IS DONE, from each place at which the run may stand
+pub traps_there : (r : MainRun) (level : ℕ) (items : List ItemCode) (next : Frame) (t : Trap)
+    → ((w : World) (outside : List ℕ) (p : Progress) (remaining : Computation Progress Done) → StandsAt w r level outside items p remaining → remaining p ≡ halt (Trapped t) p)
+    → HasDone level items next (Err t) r r
+traps_there r level items next t h = record {
+  done = λ w outside p remaining s. record { later = p; is = h w outside p remaining s; path = refl; prints = s.has_state.prints };
+  keeps = record { frames = λ j l. refl; count = refl };
+  at_next = λ e. absurd cc;
+}
+
+module _ (r : MainRun) (level : ℕ) (items : List ItemCode) (next : Frame) where
+  abbrev frames_after : List Frame
+  frames_after = slice_set r.frames level next
+
+  pub field_means : (field : ℕ) (x : NumberCode) → CanDo r level items next (code.Field field x) → main_number r.scalars x ≢ Err NoMeaning
+  field_means field x d = (field_value d.can.w r level d.can.outside items d.can.p d.can.remaining d.can.stands d.innermost d.frame d.at next d.next_is field x d.item).has_meaning
+
+  pub field_traps : (field : ℕ) (x : NumberCode) → CanDo r level items next (code.Field field x) → (t : Trap) → main_number r.scalars x ≡ Err (Trapped t) → HasDone level items next (Err t) r r
+  field_traps field x d t e = traps_there r level items next t (λ w outside p remaining s. (field_value w r level outside items p remaining s d.innermost d.frame d.at next d.next_is field x d.item).trap t e)
+
+  pub field_done : (field : ℕ) (x : NumberCode) → CanDo r level items next (code.Field field x) → (n : ℤ) → main_number r.scalars x ≡ Ok n
+      → HasDone level items next (Ok (Some (Declare field n))) r (record r { frames = frames_after })
+  field_done field x d n e = record {
+    done = λ w outside p remaining s. field_step w r level outside items p remaining s d.innermost d.frame d.at next d.next_is field x d.item n e;
+    keeps = keeps_below level r (record r { frames = frames_after }) next refl;
+    at_next = λ e. absurd cc;
+  }
+
+  pub scalar_means : (scalar : ℕ) (x : NumberCode) → CanDo r level items next (code.Var scalar x) → main_number r.scalars x ≢ Err NoMeaning
+  scalar_means scalar x d = (scalar_value_first d.can.w r level d.can.outside items d.can.p d.can.remaining d.can.stands d.innermost d.frame d.at next d.next_is scalar x d.item).has_meaning
+
+  pub scalar_is_below : (scalar : ℕ) (x : NumberCode) → CanDo r level items next (code.Var scalar x) → scalar < length r.scalars
+  scalar_is_below scalar x d = scalar_below d.can.w r level d.can.outside items d.can.p d.can.remaining d.can.stands d.innermost d.frame d.at next d.next_is scalar x d.item
+
+  pub scalar_traps : (scalar : ℕ) (x : NumberCode) → CanDo r level items next (code.Var scalar x) → (t : Trap) → main_number r.scalars x ≡ Err (Trapped t) → HasDone level items next (Err t) r r
+  scalar_traps scalar x d t e = traps_there r level items next t (λ w outside p remaining s. (scalar_value_first w r level outside items p remaining s d.innermost d.frame d.at next d.next_is scalar x d.item).trap t e)
+
+  pub scalar_done : (scalar : ℕ) (x : NumberCode) → CanDo r level items next (code.Var scalar x) → (n : ℤ) → main_number r.scalars x ≡ Ok n
+      → HasDone level items next (Ok None) r (record r { scalars = slice_set r.scalars scalar n; frames = frames_after })
+  scalar_done scalar x d n e = record {
+    done = λ w outside p remaining s. scalar_step w r level outside items p remaining s d.innermost d.frame d.at next d.next_is scalar x d.item n e;
+    keeps = keeps_below level r (record r { scalars = slice_set r.scalars scalar n; frames = frames_after }) next refl;
+    at_next = λ e. set_here r.frames level next (slice_get_within r.frames level d.frame d.at);
+  }

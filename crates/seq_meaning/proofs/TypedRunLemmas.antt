@@ -115,7 +115,7 @@ field_fresh site name kind fresh = record {
   ];
 }
 
-scalar_number : (site : Site) (name : List ℕ) → next_scalar (scalar_site name site) ≡ next_scalar site + 1
+pub scalar_number : (site : Site) (name : List ℕ) → next_scalar (scalar_site name site) ≡ next_scalar site + 1
 scalar_number site name =
     omega (arith, ap (λ xs. length xs) (filter_map-append scalar_part site.parts (ScalarPart name ∷ [])), length-append (scalars_in site.parts) (name ∷ []))
 
