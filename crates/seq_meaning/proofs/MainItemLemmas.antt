@@ -9,7 +9,7 @@ use Rattle.std.specs.Prelude.{Option, Some, None, slice_get, get_or, nat_lt, max
 use Rattle.liszt_base.specs.Limits.{print_limit}
 use Rattle.liszt_base.specs.declared.answers.Place.{Place}
 use Rattle.liszt_base.specs.declared.answers.Trap.{Trap}
-use Rattle.liszt_base.specs.declared.answers.TrapKind.TheVariants.{Prints}
+use Rattle.liszt_base.specs.declared.answers.TrapKind.TheVariants.{Prints, Spent}
 use Rattle.liszt_tree.specs.declared.tree.How.{How}
 use Rattle.liszt_base.specs.declared.elements.Kind.{Kind}
 use Rattle.liszt_tree.specs.Tree.{Expression, MainItem, MainField, MainVar, MainIf, MainWhile, MainFor, Main, item}
@@ -22,16 +22,18 @@ use Rattle.resolved_code.specs.declared.items.ItemCode.TheOpen.{ItemCode-F}
 use Rattle.resolved_code.specs.declared.items.ItemCode.TheVariants as code
 use Rattle.phase_types.specs.Environments.{Comprehension, binding_of, Part, FieldPart, ScalarPart, ComprehensionPart, IsPrefix, Site, field_part, scalar_part, comprehension_part, fields_in, scalars_in, comprehensions_in, next_field, next_scalar, next_comprehension, next_scope, comprehension_at, block_start, after_block, has_else_block, after_item, after_main}
 use Rattle.phase_types.proofs.PartLemmas.{part_at, next_part, prefix_of_prefix, main_is_prefix}
-use Rattle.kernel_eval.specs.Outcomes.{Stop, Trapped, NoMeaning, Outcome, Computation, Done, halt, skip, continue_with, if_then_else, ◌>>=◌, ◌>>◌}
+use Rattle.kernel_eval.specs.Outcomes.{Stop, Trapped, NoMeaning, Outcome, Computation, Done, halt, skip, continue_with, take_turn, if_then_else, ◌>>=◌, ◌>>◌}
 use Rattle.kernel_eval.specs.States.{State, scalar_value, with_scalar_value, known_scalars, main_evaluation}
 use Rattle.kernel_eval.specs.Meaning.{assigned_value, trap, number_in, truth_in}
 use Rattle.seq_meaning.specs.MainCode.{HoldScalars, IsNumberCode, IsTruthCode, IsCode}
 use Rattle.seq_meaning.specs.MainRuns.{Frame, MainRun, World, Descends, Stands, AtItem, InBlock, block_and_rest, block_in, block_at, index_after, nested, deepest, HasState, StandsAt, GoesOn, Reaches, Traps, Continues, HaveOneMore, AreSame, logged, next_frame, CanDo, HasDone}
 use Rattle.seq_meaning.specs.declared.main_run.MainStep.TheVariants.{Enter, Declare, Comp}
 use Rattle.seq_meaning.specs.MainValues.{main_trap, main_number, main_truth}
-use Rattle.seq_meaning.specs.Runs.{Progress, ScopeOpened, in_scope, ComprehensionReached, assign_main_name, assign_main_scalar, print_number, in_program, FieldDeclared, main_meaning, number_at, truth_at, modify_state, log_event, with_field, with_scalar}
+use Rattle.seq_meaning.specs.Runs.{Progress, ScopeOpened, in_scope, program_turns, item_meaning, ComprehensionReached, assign_main_name, assign_main_scalar, print_number, in_program, FieldDeclared, main_meaning, number_at, truth_at, modify_state, log_event, with_field, with_scalar}
 use Rattle.seq_meaning.proofs.MainHereLemmas.{Here, here, code_here, at_next, keeps_below, scalars_after_item, FieldHere, field_here, VarHere, var_here, AssignHere, assign_here, PrintHere, print_here, ForHere, for_here, WhileHere, while_here, ElseHere, IfHere, if_here, out_if, out_while, block_descends}
+use Rattle.kernel_eval.proofs.LoopLemmas.{loop_is}
 use Rattle.seq_meaning.proofs.MainCodeLemmas.{got}
+use Rattle.seq_meaning.proofs.MainPreservationLemmas.{fewer_kept, main_keeps, scope_keeps, truth_keeps}
 use Rattle.seq_meaning.proofs.TypedRunLemmas.{more_of, scalar_number}
 use Rattle.seq_meaning.proofs.NestingLemmas.{nested_if, nested_if_alone, nested_while, item_nested}
 use Rattle.seq_meaning.proofs.MainStepLemmas.{set_here, set_there, length_set, descends_below, holds_new, holds_assigned, known_after_assignment, take_more, length_take, number_changes_nothing, truth_changes_nothing, IsEvaluated, evaluated}
@@ -481,6 +483,99 @@ module _ (w : World) (r : MainRun) (level : ℕ) (outside : List ℕ) (items : L
 
       is : remaining p ≡ if_rest p
       is = if_value.value false e ∙ ap (λ b. (if_then_else b (in_scope (next_scope after_first) second_block) skip >> if_rest) p) none_here
+
+  -- A WHILE
+  module _ (place : Place) (x : TruthCode) (body : BlockCode) (c : slice_get items frame.index ≡ Some (code.While place x body)) where
+    pub l : WhileHere w.parts here_now.site here_now.program (drop (suc frame.index) items) place x body
+    l = while_here place x body (code_here here_now frame (code.While place x body) at c) refl
+
+    abbrev whole_while : MainItem
+    whole_while = MainWhile place l.test l.tree
+
+    abbrev again : Computation Progress Done
+    again = item_meaning w.mesh w.turns here_now.site whole_while
+
+    abbrev while_block : Computation Progress Done
+    while_block = main_meaning w.mesh w.turns (block_start here_now.site) l.tree
+
+    abbrev in_body : Computation Progress Done
+    in_body = in_scope (next_scope here_now.site) while_block
+
+    abbrev turn : ℕ → Computation Progress Done
+    turn turns = take_turn program_turns (in_program (trap Spent place)) in_body turns
+
+    abbrev while_next : Bool → Computation Progress Done
+    while_next b = if_then_else b ((λ p. turn p.state.turns p) >> again) skip
+
+    abbrev while_rest : Computation Progress Done
+    while_rest = main_meaning w.mesh w.turns (after_item here_now.site whole_while) l.rest
+
+    unfolded : again p ≡ (truth_at w.mesh here_now.site l.test >>= while_next) p
+    unfolded =
+        loop_is program_turns (λ n p. refl) (in_program (trap Spent place)) in_body (truth_at w.mesh here_now.site l.test) (λ again p. refl)
+        (scope_keeps fewer_kept (next_scope here_now.site) (main_keeps fewer_kept w.mesh w.turns (block_start here_now.site) l.tree)) (truth_keeps fewer_kept w.mesh here_now.site l.test) p
+
+    pub while_value : IsEvaluated (main_truth r.scalars x) (λ b. while_next b >> while_rest) remaining p
+    while_value = truth_first w r.scalars p here_now.site l.test x while_next while_rest remaining
+        (ap (λ remaining. remaining p) (here_now.is ∙ ap (main_meaning w.mesh w.turns here_now.site) l.is) ∙ ap (λ outcome. continue_with (λ done. while_rest) outcome.after outcome.answer) unfolded)
+        l.value s.has_state.scalars s.has_meaning
+
+    while_nested : 0 < nested (code.While place x body)
+    while_nested = let e = nested_while place x body in omega (arith, e)
+
+    pub while_room : suc level < length r.frames
+    while_room = room_inside (code.While place x body) c while_nested
+
+    body_at : block_at items (frame_with false) ≡ Some (record { block = body; is_repeated = true })
+    body_at = ap (λ item. option_and_then (λ c. block_in (out-ItemCode c) false) item) c ∙ ap (λ c. block_in c false) (out_while place x body)
+
+    pub ended_step : main_truth r.scalars x ≡ Ok false → Continues w level outside items p remaining r after_move
+    ended_step e = record {
+      later = p;
+      rest = while_rest;
+      is = while_value.value false e;
+      path = refl;
+      fields = refl;
+      stands = moved after_move refl refl p (after_item here_now.site whole_while) l.rest here_now.new l.code here_now.known_is
+          (scalars_after_item here_now.site whole_while (known_scalars p.state) here_now.descends)
+          (record { scalars = s.has_state.scalars; prints = s.has_state.prints; turns = s.has_state.turns; each_scalar = s.has_state.each_scalar; each_print = s.has_state.each_print; printed = s.has_state.printed })
+          (still_means p while_rest (while_value.value false e));
+      depth = refl;
+    }
+
+    abbrev taken : ℕ → Progress
+    taken turns = record p { state = record p.state { turns = turns } }
+
+    turned : (turns : ℕ) → r.turns ≡ turns → main_truth r.scalars x ≡ Ok true → remaining p ≡ (((λ p. turn turns p) >> again) >> while_rest) p
+    turned turns is e = while_value.value true e ∙ ap (λ turns. continue_with (λ done. while_rest) (continue_with (λ done. again) (turn turns p).after (turn turns p).answer).after (continue_with (λ done. again) (turn turns p).after (turn turns p).answer).answer) (s.has_state.turns ∙ is)
+
+    pub spent_trap : main_truth r.scalars x ≡ Ok true → r.turns ≡ 0 → remaining p ≡ halt (Trapped (main_trap Spent place)) p
+    spent_trap e none = turned 0 none e
+
+    pub turn_step : (turns : ℕ) → r.turns ≡ suc turns → main_truth r.scalars x ≡ Ok true
+        → GoesOn w (ScopeOpened body.scope) AreSame level outside items p remaining (record (after_opening false) { turns = turns })
+    turn_step turns some e = record {
+      later = taken turns;
+      rest = opened;
+      is = is;
+      path = refl;
+      fields = refl;
+      stands = opened_block (record (after_opening false) { turns = turns }) false true body (taken turns) (block_start here_now.site) here_now.site l.tree here_now.program refl refl while_room body_at refl l.body_code
+          (subst (λ frame. IsCode w.parts here_now.site here_now.program (drop frame.index items)) same_frame here_now.code)
+          (block_descends here_now.site (known_scalars p.state) here_now.descends) here_now.descends
+          (record { scalars = record { holds = s.has_state.scalars.holds }; prints = s.has_state.prints; turns = refl; each_scalar = s.has_state.each_scalar; each_print = s.has_state.each_print; printed = s.has_state.printed })
+          (still_means (logged (ScopeOpened body.scope) (taken turns)) opened is);
+    } where
+      same_frame : here_now.frame ≡ frame
+      same_frame = cc (here_now.at, at)
+
+      opened : Computation Progress Done
+      opened = block_and_rest w (taken turns).state body.scope while_block here_now.site here_now.program
+
+      is : remaining p ≡ block_and_rest w (taken turns).state body.scope while_block here_now.site here_now.program (logged (ScopeOpened body.scope) (taken turns))
+      is = turned (suc turns) some e ∙ regrouped in_body again while_rest (taken turns)
+          ∙ ap (λ scope. block_and_rest w (taken turns).state scope while_block here_now.site (item whole_while l.rest) (logged (ScopeOpened scope) (taken turns))) (sym l.scope)
+          ∙ ap (λ program. block_and_rest w (taken turns).state body.scope while_block here_now.site program (logged (ScopeOpened body.scope) (taken turns))) (sym l.is)
 
 -- WHAT IS DONE, from each place at which the run may stand
 pub traps_there : (r : MainRun) (level : ℕ) (items : List ItemCode) (next : Frame) (t : Trap)
