@@ -26,7 +26,7 @@ use Rattle.kernel_eval.specs.Outcomes.{Stop, Trapped, NoMeaning, Outcome, Comput
 use Rattle.kernel_eval.specs.States.{State, scalar_value, with_scalar_value, known_scalars, main_evaluation}
 use Rattle.kernel_eval.specs.Meaning.{assigned_value, trap, number_in, truth_in}
 use Rattle.seq_meaning.specs.MainCode.{HoldScalars, IsNumberCode, IsTruthCode, IsCode}
-use Rattle.seq_meaning.specs.MainRuns.{Frame, MainRun, World, Descends, Stands, AtItem, InBlock, block_and_rest, block_in, block_at, index_after, nested, deepest, HasState, StandsAt, GoesOn, Reaches, Traps, Continues, HaveOneMore, AreSame, logged, next_frame, CanDo, HasDone}
+use Rattle.seq_meaning.specs.MainRuns.{Frame, MainRun, World, Descends, Stands, AtItem, InBlock, block_and_rest, block_in, block_at, index_after, nested, deepest, HasState, StandsAt, GoesOn, Reaches, Traps, Continues, HaveOneMore, AreSame, logged, next_frame, KeepsBelow, CanDo, HasDone}
 use Rattle.seq_meaning.specs.declared.main_run.MainStep.TheVariants.{Enter, Declare, Comp}
 use Rattle.seq_meaning.specs.MainValues.{main_trap, main_number, main_truth}
 use Rattle.seq_meaning.specs.Runs.{Progress, ScopeOpened, in_scope, program_turns, item_meaning, ComprehensionReached, assign_main_name, assign_main_scalar, print_number, in_program, FieldDeclared, main_meaning, number_at, truth_at, modify_state, log_event, with_field, with_scalar}
@@ -621,3 +621,122 @@ module _ (r : MainRun) (level : ℕ) (items : List ItemCode) (next : Frame) wher
     keeps = keeps_below level r (record r { scalars = slice_set r.scalars scalar n; frames = frames_after }) next refl;
     at_next = λ e. set_here r.frames level next (slice_get_within r.frames level d.frame d.at);
   }
+
+  pub assign_means : (scalar : ℕ) (how : How) (x : NumberCode) → CanDo r level items next (code.Assign scalar how x) → main_number r.scalars x ≢ Err NoMeaning
+  assign_means scalar how x d = (assign_value d.can.w r level d.can.outside items d.can.p d.can.remaining d.can.stands d.innermost d.frame d.at next d.next_is scalar how x d.item).has_meaning
+
+  pub assign_traps : (scalar : ℕ) (how : How) (x : NumberCode) → CanDo r level items next (code.Assign scalar how x) → (t : Trap) → main_number r.scalars x ≡ Err (Trapped t) → HasDone level items next (Err t) r r
+  assign_traps scalar how x d t e = traps_there r level items next t (λ w outside p remaining s. (assign_value w r level outside items p remaining s d.innermost d.frame d.at next d.next_is scalar how x d.item).trap t e)
+
+  pub assign_is_below : (scalar : ℕ) (how : How) (x : NumberCode) → CanDo r level items next (code.Assign scalar how x) → (n : ℤ) → main_number r.scalars x ≡ Ok n → scalar < length r.scalars
+  assign_is_below scalar how x d n e = assign_below d.can.w r level d.can.outside items d.can.p d.can.remaining d.can.stands d.innermost d.frame d.at next d.next_is scalar how x d.item n e
+
+  pub assign_done : (scalar : ℕ) (how : How) (x : NumberCode) → CanDo r level items next (code.Assign scalar how x) → (n : ℤ) → main_number r.scalars x ≡ Ok n
+      → HasDone level items next (Ok None) r (record r { scalars = slice_set r.scalars scalar (assigned_value how (get_or r.scalars scalar (pos 0)) n); frames = frames_after })
+  assign_done scalar how x d n e = record {
+    done = λ w outside p remaining s. assign_step w r level outside items p remaining s d.innermost d.frame d.at next d.next_is scalar how x d.item n e;
+    keeps = keeps_below level r (record r { scalars = slice_set r.scalars scalar (assigned_value how (get_or r.scalars scalar (pos 0)) n); frames = frames_after }) next refl;
+    at_next = λ e. set_here r.frames level next (slice_get_within r.frames level d.frame d.at);
+  }
+
+  pub print_means : (place : Place) (x : NumberCode) → CanDo r level items next (code.Print place x) → main_number r.scalars x ≢ Err NoMeaning
+  print_means place x d = (print_value d.can.w r level d.can.outside items d.can.p d.can.remaining d.can.stands d.innermost d.frame d.at next d.next_is place x d.item).has_meaning
+
+  pub print_traps : (place : Place) (x : NumberCode) → CanDo r level items next (code.Print place x) → (t : Trap) → main_number r.scalars x ≡ Err (Trapped t) → HasDone level items next (Err t) r r
+  print_traps place x d t e = traps_there r level items next t (λ w outside p remaining s. (print_value w r level outside items p remaining s d.innermost d.frame d.at next d.next_is place x d.item).trap t e)
+
+  pub prints_end : (place : Place) (x : NumberCode) → CanDo r level items next (code.Print place x) → (n : ℤ) → main_number r.scalars x ≡ Ok n → print_limit ≤ r.printed
+      → HasDone level items next (Err (main_trap Prints place)) r r
+  prints_end place x d n e l = traps_there r level items next (main_trap Prints place)
+      (λ w outside p remaining s. print_trap w r level outside items p remaining s d.innermost d.frame d.at next d.next_is place x d.item n e l)
+
+  pub print_done : (place : Place) (x : NumberCode) → CanDo r level items next (code.Print place x) → (n : ℤ) → main_number r.scalars x ≡ Ok n → r.printed < print_limit
+      → HasDone level items next (Ok None) r (record r { prints = slice_set r.prints r.printed n; printed = suc r.printed; frames = frames_after })
+  print_done place x d n e l = record {
+    done = λ w outside p remaining s. print_step w r level outside items p remaining s d.innermost d.frame d.at next d.next_is place x d.item n e l;
+    keeps = keeps_below level r (record r { prints = slice_set r.prints r.printed n; printed = suc r.printed; frames = frames_after }) next refl;
+    at_next = λ e. set_here r.frames level next (slice_get_within r.frames level d.frame d.at);
+  }
+
+  pub reach_done : (k : ℕ) → CanDo r level items next (code.For k) → HasDone level items next (Ok (Some (Comp k))) r (record r { frames = frames_after })
+  reach_done k d = record {
+    done = λ w outside p remaining s. reach_step w r level outside items p remaining s d.innermost d.frame d.at next d.next_is k d.item;
+    keeps = keeps_below level r (record r { frames = frames_after }) next refl;
+    at_next = λ e. absurd cc;
+  }
+
+  -- a block that is opened
+  abbrev frames_opened : Frame → Bool → List Frame
+  frames_opened frame after_else = slice_set (slice_set r.frames level (record { index = frame.index; after_else = after_else })) (suc level) (record { index = 0; after_else = false })
+
+  pub keeps_opened : (after : MainRun) (frame : Frame) (after_else : Bool) → after.frames ≡ frames_opened frame after_else → KeepsBelow level r after
+  keeps_opened after frame after_else is = record {
+    frames = λ j l. ap (λ frames. slice_get frames j) is
+        ∙ set_there (slice_set r.frames level (record { index = frame.index; after_else = after_else })) (suc level) j (record { index = 0; after_else = false }) (λ same. absurd (omega (arith, same, l)))
+        ∙ set_there r.frames level j (record { index = frame.index; after_else = after_else }) (λ same. absurd (omega (arith, same, l)));
+    count = ap (λ frames. length frames) is
+        ∙ length_set (slice_set r.frames level (record { index = frame.index; after_else = after_else })) (suc level) (record { index = 0; after_else = false })
+        ∙ length_set r.frames level (record { index = frame.index; after_else = after_else });
+  }
+
+  module _ (x : TruthCode) (first : BlockCode) (second : Option BlockCode) (d : CanDo r level items next (code.If x first second)) where
+    pub if_means : main_truth r.scalars x ≢ Err NoMeaning
+    if_means = (if_value d.can.w r level d.can.outside items d.can.p d.can.remaining d.can.stands d.innermost d.frame d.at next d.next_is x first second d.item).has_meaning
+
+    pub if_has_room : suc level < length r.frames
+    if_has_room = if_room d.can.w r level d.can.outside items d.can.p d.can.remaining d.can.stands d.innermost d.frame d.at next d.next_is x first second d.item
+
+    pub if_traps : (t : Trap) → main_truth r.scalars x ≡ Err (Trapped t) → HasDone level items next (Err t) r r
+    if_traps t e = traps_there r level items next t (λ w outside p remaining s. (if_value w r level outside items p remaining s d.innermost d.frame d.at next d.next_is x first second d.item).trap t e)
+
+    pub first_done : main_truth r.scalars x ≡ Ok true
+        → HasDone level items next (Ok (Some (Enter first.scope))) r (record r { frames = frames_opened d.frame false; depth = suc (suc level) })
+    first_done e = record {
+      done = λ w outside p remaining s. first_step w r level outside items p remaining s d.innermost d.frame d.at next d.next_is x first second d.item e;
+      keeps = keeps_opened (record r { frames = frames_opened d.frame false; depth = suc (suc level) }) d.frame false refl;
+      at_next = λ e. absurd cc;
+    }
+
+    pub second_done : (block : BlockCode) → second ≡ Some block → main_truth r.scalars x ≡ Ok false
+        → HasDone level items next (Ok (Some (Enter block.scope))) r (record r { frames = frames_opened d.frame true; depth = suc (suc level) })
+    second_done block there e = record {
+      done = λ w outside p remaining s. second_step w r level outside items p remaining s d.innermost d.frame d.at next d.next_is x first second d.item block there e;
+      keeps = keeps_opened (record r { frames = frames_opened d.frame true; depth = suc (suc level) }) d.frame true refl;
+      at_next = λ e. absurd cc;
+    }
+
+    pub neither_done : second ≡ None → main_truth r.scalars x ≡ Ok false → HasDone level items next (Ok None) r (record r { frames = frames_after })
+    neither_done there e = record {
+      done = λ w outside p remaining s. neither_step w r level outside items p remaining s d.innermost d.frame d.at next d.next_is x first second d.item there e;
+      keeps = keeps_below level r (record r { frames = frames_after }) next refl;
+      at_next = λ e. set_here r.frames level next (slice_get_within r.frames level d.frame d.at);
+    }
+
+  module _ (place : Place) (x : TruthCode) (body : BlockCode) (d : CanDo r level items next (code.While place x body)) where
+    pub while_means : main_truth r.scalars x ≢ Err NoMeaning
+    while_means = (while_value d.can.w r level d.can.outside items d.can.p d.can.remaining d.can.stands d.innermost d.frame d.at next d.next_is place x body d.item).has_meaning
+
+    pub while_has_room : suc level < length r.frames
+    while_has_room = while_room d.can.w r level d.can.outside items d.can.p d.can.remaining d.can.stands d.innermost d.frame d.at next d.next_is place x body d.item
+
+    pub while_traps : (t : Trap) → main_truth r.scalars x ≡ Err (Trapped t) → HasDone level items next (Err t) r r
+    while_traps t e = traps_there r level items next t (λ w outside p remaining s. (while_value w r level outside items p remaining s d.innermost d.frame d.at next d.next_is place x body d.item).trap t e)
+
+    pub ended_done : main_truth r.scalars x ≡ Ok false → HasDone level items next (Ok None) r (record r { frames = frames_after })
+    ended_done e = record {
+      done = λ w outside p remaining s. ended_step w r level outside items p remaining s d.innermost d.frame d.at next d.next_is place x body d.item e;
+      keeps = keeps_below level r (record r { frames = frames_after }) next refl;
+      at_next = λ e. set_here r.frames level next (slice_get_within r.frames level d.frame d.at);
+    }
+
+    pub spent_done : main_truth r.scalars x ≡ Ok true → r.turns ≡ 0 → HasDone level items next (Err (main_trap Spent place)) r r
+    spent_done e none = traps_there r level items next (main_trap Spent place)
+        (λ w outside p remaining s. spent_trap w r level outside items p remaining s d.innermost d.frame d.at next d.next_is place x body d.item e none)
+
+    pub turn_done : (turns : ℕ) → r.turns ≡ suc turns → main_truth r.scalars x ≡ Ok true
+        → HasDone level items next (Ok (Some (Enter body.scope))) r (record r { turns = turns; frames = frames_opened d.frame false; depth = suc (suc level) })
+    turn_done turns some e = record {
+      done = λ w outside p remaining s. turn_step w r level outside items p remaining s d.innermost d.frame d.at next d.next_is place x body d.item turns some e;
+      keeps = keeps_opened (record r { turns = turns; frames = frames_opened d.frame false; depth = suc (suc level) }) d.frame false refl;
+      at_next = λ e. absurd cc;
+    }

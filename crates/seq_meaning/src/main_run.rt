@@ -12,8 +12,9 @@ use crate::values::{main_trap, number, scalar_at, truth};
 use code_eval::assigned;
 use kernel_eval::zeros;
 use liszt_base::{NoMemory, PRINT_LIMIT, Place, RunEnd, Trap, TrapKind};
+use liszt_tree::How;
 use phase_types::Checked;
-use resolved_code::{ItemCode, NumberCode};
+use resolved_code::{BlockCode, ItemCode, NumberCode, TruthCode};
 use sqlite_items::Items;
 use std::alloc::Global;
 
@@ -207,5 +208,111 @@ impl MainRun {
         self.assign(scalar, value);
         self.move_on(level, next);
         Ok(None)
+    }
+
+    /// Assigns a scalar the value of an expression.
+    fn assign_value(
+        &mut self,
+        items: &[ItemCode],
+        level: usize,
+        next: Frame,
+        scalar: u32,
+        how: How,
+        value: &NumberCode,
+    ) -> Result<Option<MainStep>, Trap>
+        requires { CanDo self.old level items.now next (Code.Assign scalar how value.now) }
+        ensures { HasDone level items.now next result self.old self.new }
+    {
+        let n = number(self.scalars.as_slice(), value)?;
+        let old = scalar_at(self.scalars.as_slice(), scalar);
+        self.assign(scalar, assigned(how, old, n));
+        self.move_on(level, next);
+        Ok(None)
+    }
+
+    /// Prints the value of an expression.
+    fn print_value(
+        &mut self,
+        items: &[ItemCode],
+        level: usize,
+        next: Frame,
+        place: Place,
+        value: &NumberCode,
+    ) -> Result<Option<MainStep>, Trap>
+        requires { CanDo self.old level items.now next (Code.Print place value.now) }
+        ensures { HasDone level items.now next result self.old self.new }
+    {
+        let n = number(self.scalars.as_slice(), value)?;
+        self.print(place, n)?;
+        self.move_on(level, next);
+        Ok(None)
+    }
+
+    /// Opens a block of an `if`, or goes on behind it.
+    fn choose(
+        &mut self,
+        items: &[ItemCode],
+        level: usize,
+        next: Frame,
+        test: &TruthCode,
+        first: &BlockCode,
+        second: &Option<BlockCode>,
+    ) -> Result<Option<MainStep>, Trap>
+        requires { CanDo self.old level items.now next (Code.If test.now first.now second.now) }
+        ensures { HasDone level items.now next result self.old self.new }
+    {
+        let frame = self.frame(level);
+        if truth(self.scalars.as_slice(), test)? {
+            self.enter(level, frame, false);
+            return Ok(Some(MainStep::Enter(first.scope)));
+        }
+        match second {
+            Some(block) => {
+                self.enter(level, frame, true);
+                Ok(Some(MainStep::Enter(block.scope)))
+            }
+            None => {
+                self.move_on(level, next);
+                Ok(None)
+            }
+        }
+    }
+
+    /// Opens the body of a `while` for a turn, or goes on behind it.
+    fn repeat(
+        &mut self,
+        items: &[ItemCode],
+        level: usize,
+        next: Frame,
+        place: Place,
+        test: &TruthCode,
+        body: &BlockCode,
+    ) -> Result<Option<MainStep>, Trap>
+        requires { CanDo self.old level items.now next (Code.While place test.now body.now) }
+        ensures { HasDone level items.now next result self.old self.new }
+    {
+        let frame = self.frame(level);
+        if !truth(self.scalars.as_slice(), test)? {
+            self.move_on(level, next);
+            return Ok(None);
+        }
+        self.take_turn(place)?;
+        self.enter(level, frame, false);
+        Ok(Some(MainStep::Enter(body.scope)))
+    }
+
+    /// Reaches a comprehension.
+    fn reach(
+        &mut self,
+        items: &[ItemCode],
+        level: usize,
+        next: Frame,
+        comprehension: u32,
+    ) -> Result<Option<MainStep>, Trap>
+        requires { CanDo self.old level items.now next (Code.For comprehension) }
+        ensures { HasDone level items.now next result self.old self.new }
+    {
+        self.move_on(level, next);
+        Ok(Some(MainStep::Comp(comprehension)))
     }
 }

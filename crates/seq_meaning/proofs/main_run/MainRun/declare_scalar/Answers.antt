@@ -1,0 +1,31 @@
+use Rattle.std.proofs.Common.{rules, ◌≡◌, ◌<◌, suc, length, get_or, pos, slice_set, ap, sym, ◌∙◌, subst, Err, Ok, Some, None, true, false}
+use Rattle.std.proofs.lemmas.Int.{to_z-of_z}
+use Rattle.std.specs.Prelude.{ℤ}
+use mir.Val.{SFits}
+use mir.Syntax.{w64}
+use Rattle.std.proofs.lemmas.Result.{err_from_is_err_and}
+use Rattle.code_eval.specs.Arithmetic.{assigned_value}
+use Rattle.seq_meaning.specs.MainRuns.{MainRun, HasDone}
+use Rattle.seq_meaning.specs.MainValues.{main_number, main_truth}
+use Rattle.seq_meaning.specs.declared.main_run.MainStep.TheVariants.{Enter, Comp}
+use Rattle.seq_meaning.proofs.MainItemLemmas.{scalar_means, scalar_traps, scalar_is_below, scalar_done}
+use Rattle.seq_meaning.proofs.main_run.MainRun.declare_scalar.Goals as goal
+
+pub number-requires : goal.number-requires
+number-requires c = λ none. scalar_means c.args.self.now c.args.level c.args.items.now c.args.next c.args.scalar c.args.init.now c.requires (ap (λ scalars. main_number scalars c.args.init.now) (sym c.as_slice.ensures) ∙ none)
+
+pub returns-in_err-value : goal.returns-in_err-value
+returns-in_err-value c =
+    let p = err_from_is_err_and c.from_residual.result c.from_residual.ensures.1 in
+    subst (λ result. HasDone c.args.level c.args.items.now c.args.next result c.args.self.now c.args.self.now) (sym (p.1 ∙ ap Err p.2))
+    (scalar_traps c.args.self.now c.args.level c.args.items.now c.args.next c.args.scalar c.args.init.now c.requires _ (ap (λ scalars. main_number scalars c.args.init.now) (sym c.as_slice.ensures) ∙ sym c.in_err-value.ensures))
+
+pub assign-requires : goal.assign-requires
+assign-requires c = scalar_is_below c.args.self.now c.args.level c.args.items.now c.args.next c.args.scalar c.args.init.now c.requires
+
+pub returns : goal.returns
+returns c =
+    let fits : SFits w64 c.in_ok-value.value = search rules in
+    let after = rw (to_z-of_z w64 c.in_ok-value.value fits) at c.assign.ensures in
+    subst (HasDone c.args.level c.args.items.now c.args.next (Ok None) c.args.self.now) (sym (c.move_on.ensures ∙ ap (λ (r : MainRun). record r { frames = slice_set r.frames c.args.level c.args.next }) after))
+    (scalar_done c.args.self.now c.args.level c.args.items.now c.args.next c.args.scalar c.args.init.now c.requires c.in_ok-value.value (ap (λ scalars. main_number scalars c.args.init.now) (sym c.as_slice.ensures) ∙ sym c.in_ok-value.ensures))
