@@ -239,3 +239,8 @@ pub record HasDone (level : ℕ) (items : List ItemCode) (next : Frame) (result 
       → HasDoneItem w level outside items p remaining result r after
   pub keeps : KeepsBelow level r after
   pub at_next : result ≡ Ok None → slice_get after.frames level ≡ Some next
+
+-- the frames after an inner block is left
+abbrev pub frames_left : List Frame → ℕ → Frame → Bool → List Frame
+frames_left frames level frame true = frames
+frames_left frames level frame false = slice_set frames level (next_frame frame)

@@ -1,11 +1,13 @@
 //! The main program, an event at a time.
 
 ghost use Rattle.std.specs.Prelude.{◌≡◌, ◌≢◌, ◌+◌, ◌<◌, ◌≤◌, ℕ, Err, IfOk, List, Ok, OnOk, None, Some, false, length, slice_get, slice_set, suc, ◌^◌};
+ghost use Rattle.std.specs.Option.{option_map};
 ghost use Rattle.liszt_base.specs.Limits.{print_limit};
 ghost use Rattle.code_eval.specs.Stops.{NoMeaning};
 ghost use Rattle.kernel_eval.specs.Outcomes.{Computation, Done};
+ghost use Rattle.resolved_code.specs.declared.items.ItemCode.{out-ItemCode};
 ghost use Rattle.resolved_code.specs.declared.items.ItemCode.TheVariants as Code;
-ghost use Rattle.seq_meaning.specs.MainRuns.{CanAdvance, CanDo, HasDone, HasAdvanced, HasDoneItem, HasPrinted, HasTakenTurn, KeepsBelow, StandsAt, World, deepest, nested};
+ghost use Rattle.seq_meaning.specs.MainRuns.{CanAdvance, CanDo, HasDone, HasAdvanced, HasDoneItem, HasPrinted, HasTakenTurn, KeepsBelow, StandsAt, World, block_at, block_in, deepest, frames_left, nested, next_frame};
 ghost use Rattle.seq_meaning.specs.Runs.{Progress};
 
 use crate::values::{main_trap, number, scalar_at, truth};
@@ -97,6 +99,49 @@ fn reserve_inner(frames: &mut Items<Frame>, item: &ItemCode, level: usize) -> Re
         _ => {}
     }
     Ok(())
+}
+
+/// The frame at the next item of a block of so many items.
+fn next_of(frame: Frame, count: usize) -> Frame
+    requires { frame.index < count }
+    ensures { result ≡ next_frame frame }
+{
+    Frame {
+        index: frame.index + 1,
+        after_else: frame.after_else,
+    }
+}
+
+/// The block of an item that can be open, and whether the item is met again after it.
+fn inner_block(item: &ItemCode, after_else: bool) -> Option<(&BlockCode, bool)>
+    ensures { option_map (λ inner. record { block = inner.0.now; is_repeated = inner.1 }) result
+        ≡ block_in (out-ItemCode item.now) after_else }
+{
+    match item {
+        ItemCode::If { first, second, .. } => {
+            if !after_else {
+                return Some((first, false));
+            }
+            match second {
+                Some(second) => Some((second, false)),
+                None => None,
+            }
+        }
+        ItemCode::While { body, .. } => Some((body, true)),
+        ItemCode::Field { .. }
+        | ItemCode::Var { .. }
+        | ItemCode::Assign { .. }
+        | ItemCode::For { .. }
+        | ItemCode::Print { .. } => None,
+    }
+}
+
+/// The block that is open in the item of a frame, and whether the item is met again after it.
+fn block_of(items: &[ItemCode], frame: Frame) -> Option<(&BlockCode, bool)>
+    ensures { option_map (λ inner. record { block = inner.0.now; is_repeated = inner.1 }) result
+        ≡ block_at items.now frame }
+{
+    inner_block(items.get(frame.index)?, frame.after_else)
 }
 
 impl MainRun {
@@ -314,5 +359,97 @@ impl MainRun {
     {
         self.move_on(level, next);
         Ok(Some(MainStep::Comp(comprehension)))
+    }
+
+    /// Does the item of the innermost block.
+    fn run_item(
+        &mut self,
+        items: &[ItemCode],
+        level: usize,
+        next: Frame,
+        item: &ItemCode,
+    ) -> Result<Option<MainStep>, Trap>
+        requires { CanDo self.old level items.now next item.now }
+        ensures { HasDone level items.now next result self.old self.new }
+    {
+        match item {
+            ItemCode::Field { field, init } => self.declare(items, level, next, *field, init),
+            ItemCode::Var { scalar, init } => {
+                self.declare_scalar(items, level, next, *scalar, init)
+            }
+            ItemCode::Assign { scalar, how, value } => {
+                self.assign_value(items, level, next, *scalar, *how, value)
+            }
+            ItemCode::If {
+                test,
+                first,
+                second,
+            } => self.choose(items, level, next, test, first, second),
+            ItemCode::While { place, test, body } => {
+                self.repeat(items, level, next, *place, test, body)
+            }
+            ItemCode::For { comprehension } => self.reach(items, level, next, *comprehension),
+            ItemCode::Print { place, value } => self.print_value(items, level, next, *place, value),
+        }
+    }
+
+    /// Goes through the innermost block, up to an event or to its end.
+    fn run_items(&mut self, items: &[ItemCode], level: usize) -> Option<MainStep>
+        requires can { CanAdvance self.old level items.now }
+        requires innermost { suc level ≡ self.old.depth }
+        ensures advanced { (w : World) (outside : List ℕ) (p : Progress)
+            (remaining : Computation Progress Done)
+            → StandsAt w self.old level outside items.now p remaining
+            → HasAdvanced w level outside items.now p remaining result self.new }
+        ensures keeps { KeepsBelow level self.old self.new }
+    {
+        loop {
+            let frame = self.frame(level);
+            if frame.index >= items.len() {
+                return None;
+            }
+            let next = next_of(frame, items.len());
+            match self.run_item(items, level, next, &items[frame.index]) {
+                Ok(None) => {}
+                Ok(Some(step)) => return Some(step),
+                Err(trap) => return Some(MainStep::Over(RunEnd::Trap(trap))),
+            }
+        }
+    }
+
+    /// Goes on from where the run stands in a block at a level, up to an event or to the end of the block.
+    fn advance(&mut self, items: &[ItemCode], level: usize) -> Option<MainStep>
+        requires { CanAdvance self.old level items.now }
+        ensures advanced { (w : World) (outside : List ℕ) (p : Progress)
+            (remaining : Computation Progress Done)
+            → StandsAt w self.old level outside items.now p remaining
+            → HasAdvanced w level outside items.now p remaining result self.new }
+        ensures keeps { KeepsBelow level self.old self.new }
+    {
+        if level + 1 >= self.depth {
+            return self.run_items(items, level);
+        }
+        let frame = self.frame(level);
+        let (block, is_repeated) = block_of(items, frame)?;
+        if let Some(step) = self.advance(block.items.as_slice(), level + 1) {
+            return Some(step);
+        }
+        self.leave(level, frame, is_repeated, items.len());
+        Some(MainStep::Leave(block.scope))
+    }
+
+    /// Goes back from an inner block to the block at a level.
+    fn leave(&mut self, level: usize, frame: Frame, is_repeated: bool, count: usize)
+        requires level { level < length self.old.frames }
+        requires frame { frame.index < count }
+        ensures { self.new ≡ record self.old {
+            depth = suc level;
+            frames = frames_left self.old.frames level frame is_repeated } }
+    {
+        let _levels = self.frames.len();
+        self.depth = level + 1;
+        if !is_repeated {
+            self.move_on(level, next_of(frame, count));
+        }
     }
 }
