@@ -1,23 +1,20 @@
 -- An iteration over a store of words does the tree's iteration.
-use Rattle.std.proofs.Common.{◌≡◌, ◌≢◌, ◌<◌, ◌≤◌, ℕ, true, false, List, [], ◌∷◌, ◌++◌, length, get_or, refl, sym, ap, subst, ◌∙◌, append-nil, arith}
+use Rattle.std.proofs.Common.{◌≡◌, ◌≢◌, ℕ, true, List, [], ◌∷◌, length, refl, sym, ap, subst, ◌∙◌, append-nil, arith}
 use Rattle.std.proofs.lemmas.List.{get_or-set_same, length-set}
-use Rattle.std.specs.List.{slice_set}
-use Rattle.std.specs.Prelude.{Option, Some, None, is_some, ℤ, pos, slice_get, unwrap_or, Result, Ok, Err}
+use Rattle.std.specs.Prelude.{Option, Some, None, is_some, ℤ, pos, slice_get, unwrap_or, Result, Err}
 use Rattle.liszt_base.specs.Corners.{IsMesh}
 use Rattle.liszt_base.specs.MeshLists.{MeshLists}
 use Rattle.liszt_base.specs.declared.accesses.Spot.{Spot}
 use Rattle.liszt_base.specs.declared.answers.RunEnd.{RunEnd}
-use Rattle.liszt_base.specs.declared.elements.Elem.{Elem}
 use Rattle.mesh_topology.specs.Elements.{corner_lists}
 use Rattle.resolved_code.specs.declared.items.ComprehensionCode.{ComprehensionCode}
 use Rattle.topo_operators.specs.Operators.{unflipped}
 use Rattle.phase_types.specs.declared.state.CheckedProgram.{CheckedProgram}
 use Rattle.phase_types.specs.Environments.{Comprehension}
 use Rattle.phase_types.proofs.CheckedLemmas.{checked_code}
-use Rattle.code_eval.specs.Acts.{Act}
 use Rattle.code_eval.specs.declared.activation.Activation.{Activation}
 use Rattle.code_eval.specs.declared.activation.Stopped.{Stopped}
-use Rattle.code_eval.specs.Executions.{Executed, Execution, Done, answered, after_acts, stop_in, LeadsTo, CanRun, HasLed}
+use Rattle.code_eval.specs.Executions.{Executed, Done, answered, stop_in, LeadsTo, CanRun, HasLed}
 use Rattle.code_eval.specs.Meaning.{body_execution}
 use Rattle.code_eval.specs.Stops.{Stop, NoMeaning}
 use Rattle.code_eval.specs.Stores.{StoreView, Admits, HasActed}

@@ -23,10 +23,12 @@ ghost use Rattle.phase_types.specs.Environments.{Binding, Comprehension, Environ
 ghost use Rattle.phase_types.specs.Typed.{ComprehensionFits};
 ghost use Rattle.phase_types.specs.Walk.{OfField, OfScalar, mode_in};
 ghost use Rattle.code_eval.specs.Meaning.{body_execution};
+ghost use Rattle.code_eval.specs.Stores.{Admits, HasActed, StoreView};
 ghost use Rattle.code_eval.specs.declared.activation.Activation.{Activation};
 ghost use Rattle.kernel_eval.specs.CodeIterations.{IsReady, HasValues, DoesIteration};
 ghost use Rattle.kernel_eval.specs.Expressions.{element_value, elements_after};
 ghost use Rattle.kernel_eval.specs.Fits.{StateFits};
+ghost use Rattle.kernel_eval.specs.HeldFields.{HoldsFields};
 ghost use Rattle.kernel_eval.specs.Iterations.{acts, iteration, iteration_end, partial};
 ghost use Rattle.kernel_eval.specs.Preservation.{ChangesNothing, FoldsByTheMode, HasNoMoreTurns, HasTheMode, Preserves, ActsDetermineFields, ActsDetermineValues, Commutes, with_earlier, field_values, loop_unfolded, scalars_after};
 ghost use Rattle.kernel_eval.specs.Outcomes.{Stop, halt, pure};
@@ -203,4 +205,16 @@ pub fn resolved_code_does_its_iterations()
         → ComprehensionFits c → StateFits mesh c.environment s → id < count mesh c.over
         → IsReady code c turns s id a → HasValues c s values
         → DoesIteration mesh c turns s id a (body_execution mesh code.body values a) }
+{}
+
+/// A store that holds the fields of a state admits the acts of each iteration of a typed comprehension from that state, and after them
+/// it holds the fields of the state after the iteration, also if that trapped.
+pub fn stores_hold_fields_through_iterations()
+    ensures admits { (mesh : MeshLists) (c : Comprehension) (turns : ℕ) (s : State) (id : ℕ)
+        (store : StoreView)
+        → ComprehensionFits c → HoldsFields s store → Admits store (acts mesh c turns s id) }
+    ensures after { (mesh : MeshLists) (c : Comprehension) (turns : ℕ) (s : State) (id : ℕ)
+        (store later : StoreView)
+        → HoldsFields s store → HasActed (acts mesh c turns s id) store later
+        → HoldsFields (iteration mesh c turns s id).after.state later }
 {}

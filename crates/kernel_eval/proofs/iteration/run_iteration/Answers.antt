@@ -1,4 +1,4 @@
-use Rattle.std.proofs.Common.{◌≡◌, ◌<◌, length, get_or, refl, sym, ap, subst, ◌∙◌, Some, Ok, Err, rules}
+use Rattle.std.proofs.Common.{◌≡◌, get_or, refl, ap, ◌∙◌, Some, Ok, Err}
 use Rattle.std.specs.Prelude.{slice_get}
 use Rattle.liszt_base.specs.declared.answers.RunEnd.TheVariants.{Done as IsDone, Trap as IsTrap}
 use Rattle.kernel_eval.proofs.RunningLemmas.{can_run, has_iterated, still_prepared}
