@@ -10,6 +10,7 @@ pub mod ConditionLemmas
 pub mod ElementBindingLemmas
 pub mod ElementExpressionLemmas
 pub mod HeldFieldLemmas
+pub mod HeldStateLemmas
 pub mod HistoryLemmas
 pub mod LoopLemmas
 pub mod MainExpressionLemmas
