@@ -34,11 +34,11 @@ transitive a b c h g = grind (arith, h, g)
 irreflexive : (a b : Access) → Precedes a b → Precedes b a → ⊥
 irreflexive a b h g = grind (arith, h, g)
 
-abbrev IsAscending : List Access → Type 0
+abbrev pub IsAscending : List Access → Type 0
 IsAscending [] = Unit {0}
 IsAscending (a ∷ rest) = AllByRecursion (Precedes a) rest × IsAscending rest
 
-all_above : (a x : Access) → Precedes a x → (xs : List Access) → AllByRecursion (Precedes x) xs → AllByRecursion (Precedes a) xs
+pub all_above : (a x : Access) → Precedes a x → (xs : List Access) → AllByRecursion (Precedes x) xs → AllByRecursion (Precedes a) xs
 all_above a x h [] all = tt
 all_above a x h (y ∷ xs) all = (transitive a x y h all.0, all_above a x h xs all.1)
 
@@ -142,11 +142,11 @@ module _ (mode : ℕ → Option Mode) where
   all_these (x ∷ xs) h a (inr m) = remains x a (stencil_of xs) (all_these xs (λ a m. h a (inr m)) a m)
 
 -- an ordered list, by its indices
-pairs_of : (xs : List Access) → IsAscending xs → AllPairs Precedes xs
+pub pairs_of : (xs : List Access) → IsAscending xs → AllPairs Precedes xs
 pairs_of [] h = λ i j d less within. absurd (omega (arith, within))
 pairs_of (x ∷ xs) h = AllPairs-cons Precedes x xs (All-from_recursion (Precedes x) xs h.0) (pairs_of xs h.1)
 
-ascending_of : (xs : List Access) → AllPairs Precedes xs → IsAscending xs
+pub ascending_of : (xs : List Access) → AllPairs Precedes xs → IsAscending xs
 ascending_of [] h = tt
 ascending_of (x ∷ xs) h = (
   recursion_from_All (Precedes x) xs (λ k d within. h 0 (suc k) d (omega arith) (omega (arith, within))),

@@ -2,9 +2,11 @@
 //! the functions that count visits over resolved code. Nothing public calls these yet.
 #![tactic(auto)]
 
+mod access_set;
 mod cases;
 mod count;
 mod elements;
+mod gather;
 pub mod laws;
 mod visits;
 mod walks;
