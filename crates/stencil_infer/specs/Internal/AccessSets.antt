@@ -4,6 +4,7 @@ use Rattle.std.specs.List.{AllPairs, Contains}
 use Rattle.liszt_base.specs.Limits.{entry_limit}
 use Rattle.liszt_base.specs.declared.accesses.Access.{Access}
 use Rattle.stencil_infer.specs.Stencils.{Precedes}
+use Rattle.stencil_infer.specs.Internal.CodeAccesses.{Slots, Walk}
 use Rattle.stencil_infer.specs.declared.access_set.AccessSet.{AccessSet}
 
 -- each spot has one mode
@@ -35,3 +36,8 @@ pub record Adds (accesses : List Access) (old new : AccessSet) : Type 0 where
 pub record IsOrdered (past items : List Access) : Type 0 where
   pub ascending : AllPairs Precedes items
   pub members : HasMembers past items
+
+-- A walk HAS BEEN GATHERED: its accesses are added to a set, and the slots are as after it.
+pub record HasGathered (walk : Walk) (slots : Slots) (old new : AccessSet) : Type 0 where
+  pub adds : Adds walk.accesses old new
+  pub slots_are : slots ≡ walk.slots
