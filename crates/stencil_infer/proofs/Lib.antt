@@ -10,6 +10,7 @@ pub mod FitClauseLemmas
 pub mod FitExpressionLemmas
 pub mod FitStatementLemmas
 pub mod GatherLemmas
+pub mod InferLemmas
 pub mod SetLemmas
 pub mod SoundnessLemmas
 pub mod StencilLemmas

@@ -1,5 +1,5 @@
 -- Sets of accesses: sorted, without repeats, and added to.
-use Rattle.std.proofs.Common.{◌≡◌, ◌⊎◌, ◌==◌, ◌&&◌, ◌<◌, ◌≤◌, ◌+◌, ℕ, zero, suc, Bool, true, false, List, [], ◌∷◌, ◌++◌, length, get_or, refl, sym, ap, subst, ◌∙◌, inl, inr, arith, append_assoc}
+use Rattle.std.proofs.Common.{◌≡◌, ◌⊎◌, ◌==◌, ◌&&◌, ◌<◌, ◌+◌, ℕ, suc, Bool, true, false, List, [], ◌∷◌, ◌++◌, length, get_or, refl, sym, subst, ◌∙◌, inl, inr, arith}
 use Rattle.std.proofs.lemmas.Bool.{cases_Bool}
 use Rattle.std.proofs.lemmas.Bool.Decides.{nat_tests}
 use Rattle.std.proofs.lemmas.List.Elements.{Contains-append_left, Contains-append_right, Contains-append_cases}
@@ -11,11 +11,10 @@ use Rattle.liszt_base.specs.Limits.{entry_limit}
 use Rattle.std.specs.List.{AllPairs, AllByRecursion, Contains, dedup, dedup_from}
 use Rattle.std.specs.List.Sorted.{IsPermutation, IsSortedByKey}
 use Rattle.liszt_base.specs.declared.accesses.Access.{Access}
-use Rattle.liszt_base.specs.declared.accesses.Spot.{Spot}
 use Rattle.mesh_topology.proofs.MemberLemmas.{Member, member_contained, contained_member}
-use Rattle.stencil_infer.specs.Internal.AccessSets.{HasOneMode, HasMembers, IsOverfull, Holds, Adds}
+use Rattle.stencil_infer.specs.Internal.AccessSets.{HasOneMode, HasMembers, IsOverfull}
 use Rattle.stencil_infer.specs.Stencils.{Precedes}
-use Rattle.stencil_infer.proofs.StencilLemmas.{IsAscending, all_above, pairs_of}
+use Rattle.stencil_infer.proofs.StencilLemmas.{IsAscending, pairs_of}
 
 -- THE KEY of an access, and its order
 abbrev pub key : Access → ℕ × ℕ
@@ -57,8 +56,8 @@ rising_of (a ∷ []) h = tt
 rising_of (a ∷ b ∷ rest) h = (
   not_after a b (h 0 a (omega arith) (omega arith)),
   rising_of (b ∷ rest) (λ k d low l.
-  let next : suc k + 1 ≡ suc (k + 1) = omega arith in
-  subst (λ n. is_lt (compare (key (get_or (a ∷ b ∷ rest) n d)) (key (get_or (b ∷ rest) k d))) ≡ false) next (h (suc k) d (omega arith) (omega (arith, l)))),
+      let next : suc k + 1 ≡ suc (k + 1) = omega arith in
+      subst (λ n. is_lt (compare (key (get_or (a ∷ b ∷ rest) n d)) (key (get_or (b ∷ rest) k d))) ≡ false) next (h (suc k) d (omega arith) (omega (arith, l)))),
 )
 
 rising_same : (a b : Access) (xs : List Access) → b.spot ≡ a.spot → IsRising (b ∷ xs) → IsRising (a ∷ xs)

@@ -2,3 +2,4 @@
 pub mod AccessSets
 pub mod Cases
 pub mod CodeAccesses
+pub mod CodeIterations

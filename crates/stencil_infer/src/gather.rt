@@ -29,7 +29,9 @@ fn gather_number(
     ensures { OnOk result (Adds (number_accesses m.now slots.now code.now) set.old set.new) }
 {
     match code {
-        NumberCode::Constant { .. } | NumberCode::Local { .. } | NumberCode::Scalar { .. } => Ok(()),
+        NumberCode::Constant { .. } | NumberCode::Local { .. } | NumberCode::Scalar { .. } => Ok(
+            (),
+        ),
         NumberCode::Field { field, arg, .. } => {
             let x = element(m, kinds, slots, arg);
             set.add_at(Mode::Read, *field, x)

@@ -1,5 +1,5 @@
 -- Sets of accesses while they are gathered. This project's own.
-use Rattle.std.specs.Prelude.{◌≡◌, ◌<◌, ◌⊎◌, Bool, true, false, List, ◌++◌, length}
+use Rattle.std.specs.Prelude.{◌≡◌, ◌<◌, true, false, List, ◌++◌, length}
 use Rattle.std.specs.List.{AllPairs, Contains}
 use Rattle.liszt_base.specs.Limits.{entry_limit}
 use Rattle.liszt_base.specs.declared.accesses.Access.{Access}

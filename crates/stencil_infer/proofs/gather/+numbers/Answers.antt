@@ -1,4 +1,4 @@
-use Rattle.std.proofs.Common.{rules, ◌++◌, map, refl, sym, ap, subst, ◌∙◌}
+use Rattle.std.proofs.Common.{rules, ◌++◌, map, sym, ap, subst, ◌∙◌}
 use Rattle.resolved_code.specs.declared.expressions.NumberCode.{the_lemmas}
 use Rattle.stencil_infer.specs.Internal.AccessSets.{Adds}
 use Rattle.stencil_infer.specs.Internal.CodeAccesses.{joined, fits_of_number_link, number_accesses, number_link_accesses}
@@ -28,7 +28,7 @@ gather_number_links-gather_number-requires t c = (
   (
     c.requires.slots,
     sym (fits_number_link c.args.kinds.now c.link-item.result)
-    ∙ fit_of_each (fits_of_number_link c.args.kinds.now) c.args.links.now c.loop-link.link-index c.link-item.result c.requires.code c.loop-link-test.true c.link-item.is,
+        ∙ fit_of_each (fits_of_number_link c.args.kinds.now) c.args.links.now c.loop-link.link-index c.link-item.result c.requires.code c.loop-link-test.true c.link-item.is,
   ),
 )
 

@@ -1,9 +1,9 @@
-use Rattle.std.proofs.Common.{rules, ◌≡◌, ◌++◌, Some, refl, sym, ap, subst, ◌∙◌, arith}
+use Rattle.std.proofs.Common.{rules, Some, refl, ap, subst, ◌∙◌, arith}
 use Rattle.std.specs.List.{AllByRecursion}
 use Rattle.liszt_base.specs.Kinds.{kind_of as kind_of_set}
 use Rattle.topo_operators.specs.Operands.{IsNilOrElement}
 use Rattle.resolved_code.specs.declared.statements.StatementCode.{the_lemmas}
-use Rattle.stencil_infer.specs.Internal.CodeAccesses.{FitsSlot, code_fits, code_walk, members_walk, statement_fits, statement_walk}
+use Rattle.stencil_infer.specs.Internal.CodeAccesses.{FitsSlot, code_fits, code_walk, members_walk, statement_fits}
 use Rattle.stencil_infer.proofs.CountLemmas.{fit_of_each, fit_set, for_fits, members_fit, slot_there, val_fit, val_within}
 use Rattle.stencil_infer.proofs.GatherLemmas.{body_step, body_end, member_step, member_end, second_fits, field_gathered, if_gathered, while_gathered, for_gathered}
 use Rattle.stencil_infer.proofs.gather.+statements.Goals as goal

@@ -1,4 +1,4 @@
-use Rattle.std.proofs.Common.{rules, ◌++◌, map, refl, sym, ap, subst, ◌∙◌}
+use Rattle.std.proofs.Common.{rules, ◌++◌, map, sym, ap, subst, ◌∙◌}
 use Rattle.resolved_code.specs.declared.expressions.TruthCode.{the_lemmas}
 use Rattle.stencil_infer.specs.Internal.AccessSets.{Adds}
 use Rattle.stencil_infer.specs.Internal.CodeAccesses.{joined, fits_of_truth_link, number_accesses, truth_accesses, truth_link_accesses}
@@ -37,7 +37,7 @@ gather_truth_links-gather_truth-requires t c = (
   (
     c.requires.slots,
     sym (fits_truth_link c.args.kinds.now c.link-item.result)
-    ∙ fit_of_each (fits_of_truth_link c.args.kinds.now) c.args.links.now c.loop-link.link-index c.link-item.result c.requires.code c.loop-link-test.true c.link-item.is,
+        ∙ fit_of_each (fits_of_truth_link c.args.kinds.now) c.args.links.now c.loop-link.link-index c.link-item.result c.requires.code c.loop-link-test.true c.link-item.is,
   ),
 )
 

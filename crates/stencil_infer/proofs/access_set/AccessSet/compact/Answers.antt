@@ -1,4 +1,4 @@
-use Rattle.std.proofs.Common.{Bool, true, false, ◌≡◌, arith, inl, inr}
+use Rattle.std.proofs.Common.{arith, inl, inr}
 use Rattle.std.proofs.lemmas.Bool.{cases_Bool}
 use Rattle.stencil_infer.proofs.SetLemmas.{compacted_members, compacted_full}
 use Rattle.stencil_infer.proofs.access_set.AccessSet.compact.Goals as goal
