@@ -30,7 +30,7 @@ use Rattle.mesh_topology.specs.Elements.{count}
 use Rattle.resolved_code.specs.declared.items.ComprehensionCode.{ComprehensionCode}
 use Rattle.topo_operators.specs.Operators.{unflipped}
 use Rattle.phase_types.specs.Environments.{Comprehension, comprehension_of}
-use Rattle.stencil_infer.specs.Stencils.{AreStencils, Inferred, IsStencil, entries, inferred, iteration_accesses, iteration_visits, past_limit, stencil_of, stencils, visits}
+use Rattle.stencil_infer.specs.Stencils.{AreStencils, StencilLists, IsStencil, entries, inference, iteration_accesses, iteration_visits, past_limit, stencil_of, stencils, visits}
 use Rattle.stencil_infer.specs.Internal.CodeAccesses.{Slots, SlotsFit, code_walk}
 use Rattle.stencil_infer.specs.Internal.CodeIterations.{FitsSlots, IsCodeOf, within}
 use Rattle.stencil_infer.proofs.CountLemmas.{fit_set}
@@ -95,10 +95,10 @@ abbrev pub stencil_at : MeshLists → Comprehension → ℕ → List Access
 stencil_at mesh c id = stencil_of (iteration_accesses mesh c id)
 
 module _ (mesh : MeshLists) (code : ComprehensionCode) (c : Comprehension) (of : IsCodeOf mesh c code) (id : ℕ) where
-  held : (slots started later : Slots) (codes : List StatementCode) (s t : AccessSet) → length slots ≡ length code.elements
+  set_holds : (slots started later : Slots) (codes : List StatementCode) (s t : AccessSet) → length slots ≡ length code.elements
       → started ≡ slice_set slots 0 (Some (unflipped code.over id)) → codes ≡ code.body → Holds s [] → HasGathered (code_walk mesh codes started) later s t
       → Holds t (iteration_accesses mesh c id)
-  held slots started later codes s t long is body empty h =
+  set_holds slots started later codes s t long is body empty h =
       let same : (code_walk mesh codes started).accesses ≡ iteration_accesses mesh c id =
       ap (λ codes. (code_walk mesh codes started).accesses) body ∙ ap (λ slots. (code_walk mesh code.body slots).accesses) is ∙ of.accesses id slots long in
       subst (Holds t) same (h.adds.adds [] empty)
@@ -108,7 +108,7 @@ module _ (mesh : MeshLists) (code : ComprehensionCode) (c : Comprehension) (of :
       → ((past : List Access) → Holds t past → HasOneMode past → IsOrdered past items) → items ≡ stencil_at mesh c id
   is_stencil slots started later codes s t items long is body empty h ordered =
       let xs : List Access = iteration_accesses mesh c id in
-      let o : IsOrdered xs items = ordered xs (held slots started later codes s t long is body empty h) (one_mode_at mesh c id of.typed) in
+      let o : IsOrdered xs items = ordered xs (set_holds slots started later codes s t long is body empty h) (one_mode_at mesh c id of.typed) in
       same_stencil mesh c id (stencil_of xs) items (has_stencil mesh c id of.typed)
       (record { ascending = o.ascending; has_all = o.members.has_all; has_no_other = o.members.has_no_other })
 
@@ -117,7 +117,7 @@ module _ (mesh : MeshLists) (code : ComprehensionCode) (c : Comprehension) (of :
       → ((past : List Access) → Holds t past → HasOneMode past → IsOverfull past) → entry_limit < length (stencil_at mesh c id)
   is_overfull slots started later codes s t long is body empty h overfull =
       let xs : List Access = iteration_accesses mesh c id in
-      let o : IsOverfull xs = overfull xs (held slots started later codes s t long is body empty h) (one_mode_at mesh c id of.typed) in
+      let o : IsOverfull xs = overfull xs (set_holds slots started later codes s t long is body empty h) (one_mode_at mesh c id of.typed) in
       omega (arith, o.many, no_more_accesses mesh c id o.some of.typed o.ascending o.within)
 
 -- STENCILS one after another
@@ -166,13 +166,13 @@ entries_step lists later items room now limit is few fits now_is =
     omega (arith, few, fits, now_is, size)
 
 -- THE CODE of a comprehension of a checked program
-found : {A : Type 0} (xs : List A) (k : ℕ) (x : A) → k < length xs → x ≡ get_or xs k x → slice_get xs k ≡ Some x
-found [] k x l e = absurd (omega (arith, l))
-found (y ∷ xs) zero x l e = ap Some (sym e)
-found (y ∷ xs) (suc k) x l e = found xs k x (omega (arith, l)) e
+item_at : {A : Type 0} (xs : List A) (k : ℕ) (x : A) → k < length xs → x ≡ get_or xs k x → slice_get xs k ≡ Some x
+item_at [] k x l e = absurd (omega (arith, l))
+item_at (y ∷ xs) zero x l e = ap Some (sym e)
+item_at (y ∷ xs) (suc k) x l e = item_at xs k x (omega (arith, l)) e
 
 pub at_index : {A : Type 0} (xs used : List A) (k : ℕ) (x : A) → k < length xs → used ≡ xs → x ≡ get_or used k x → slice_get xs k ≡ Some x
-at_index xs used k x l same e = found xs k x l (e ∙ ap (λ xs. get_or xs k x) same)
+at_index xs used k x l same e = item_at xs k x l (e ∙ ap (λ xs. get_or xs k x) same)
 
 pub fits_slots : (checked : CheckedProgram) (k : ℕ) (code : ComprehensionCode) → IsChecked checked → slice_get checked.comprehensions k ≡ Some code → FitsSlots code
 fits_slots checked k code is at =
@@ -197,29 +197,29 @@ is_code mesh program checked k code c is at of =
     }
 
 -- THE RESULT
-abbrev by : Bool → Result Inferred LimitFault → Result Inferred LimitFault → Result Inferred LimitFault
-by test past rest = if◌then◌else◌ {A = Result Inferred LimitFault} test past rest
+abbrev choice : Bool → Result StencilLists LimitFault → Result StencilLists LimitFault → Result StencilLists LimitFault
+choice test past rest = if◌then◌else◌ {A = Result StencilLists LimitFault} test past rest
 
-abbrev as_inferred : Inferred → Result Inferred LimitFault
-as_inferred value = Ok value
+abbrev as_result : StencilLists → Result StencilLists LimitFault
+as_result value = Ok value
 
 module _ (mesh : MeshLists) (c : Comprehension) (k : ℕ) where
-  abbrev visits_fault : Result Inferred LimitFault
+  abbrev visits_fault : Result StencilLists LimitFault
   visits_fault = Err (past_limit (Visits k) visit_limit)
 
-  abbrev entries_fault : Result Inferred LimitFault
+  abbrev entries_fault : Result StencilLists LimitFault
   entries_fault = Err (past_limit (Entries k) entry_limit)
 
-  abbrev lists_and_visits : Result Inferred LimitFault
+  abbrev lists_and_visits : Result StencilLists LimitFault
   lists_and_visits = Ok (record { lists = stencils mesh c; visits = visits mesh c })
 
-  pub gives_visits : visit_limit < visits mesh c → inferred mesh c k ≡ Err (past_limit (Visits k) visit_limit)
+  pub gives_visits : visit_limit < visits mesh c → inference mesh c k ≡ Err (past_limit (Visits k) visit_limit)
   gives_visits l =
-      ap (λ test. by test visits_fault (by (nat_lt entry_limit (entries (stencils mesh c))) entries_fault lists_and_visits)) (lt-ltb visit_limit (visits mesh c) l)
+      ap (λ test. choice test visits_fault (choice (nat_lt entry_limit (entries (stencils mesh c))) entries_fault lists_and_visits)) (lt-ltb visit_limit (visits mesh c) l)
 
-  few_visits : visits mesh c ≤ visit_limit → inferred mesh c k ≡ by (nat_lt entry_limit (entries (stencils mesh c))) entries_fault lists_and_visits
+  few_visits : visits mesh c ≤ visit_limit → inference mesh c k ≡ choice (nat_lt entry_limit (entries (stencils mesh c))) entries_fault lists_and_visits
   few_visits l =
-      ap (λ test. by test visits_fault (by (nat_lt entry_limit (entries (stencils mesh c))) entries_fault lists_and_visits)) (le-ltb visit_limit (visits mesh c) l)
+      ap (λ test. choice test visits_fault (choice (nat_lt entry_limit (entries (stencils mesh c))) entries_fault lists_and_visits)) (le-ltb visit_limit (visits mesh c) l)
 
   is_past : None ≡ within entry_limit (stencils mesh c) → nat_lt entry_limit (entries (stencils mesh c)) ≡ true
   is_past e = elim (cases_Bool (nat_lt entry_limit (entries (stencils mesh c)))) [
@@ -233,38 +233,38 @@ module _ (mesh : MeshLists) (c : Comprehension) (k : ℕ) where
     | inr fits ↦ (let some : Some lists ≡ Some (stencils mesh c) = e ∙ ap (λ test. if◌then◌else◌ {A = Option (List (List Access))} test None (Some (stencils mesh c))) fits in (fits, cc))
   ]
 
-  pub gives_entries : visits mesh c ≤ visit_limit → None ≡ within entry_limit (stencils mesh c) → inferred mesh c k ≡ Err (past_limit (Entries k) entry_limit)
-  gives_entries l e = few_visits l ∙ ap (λ test. by test entries_fault lists_and_visits) (is_past e)
+  pub gives_entries : visits mesh c ≤ visit_limit → None ≡ within entry_limit (stencils mesh c) → inference mesh c k ≡ Err (past_limit (Entries k) entry_limit)
+  gives_entries l e = few_visits l ∙ ap (λ test. choice test entries_fault lists_and_visits) (is_past e)
 
   pub gives_lists : (lists : List (List Access)) (n : ℕ) → visits mesh c ≤ visit_limit → n ≡ visits mesh c → Some lists ≡ within entry_limit (stencils mesh c)
-      → inferred mesh c k ≡ Ok (record { lists = lists; visits = n })
+      → inference mesh c k ≡ Ok (record { lists = lists; visits = n })
   gives_lists lists n l is e =
       let w = are_within lists e in
       let ends : lists_and_visits ≡ Ok (record { lists = lists; visits = n }) =
-      ap (λ lists. as_inferred (record { lists = lists; visits = visits mesh c })) (sym w.1) ∙ ap (λ n. as_inferred (record { lists = lists; visits = n })) (sym is) in
-      few_visits l ∙ ap (λ test. by test entries_fault lists_and_visits) w.0 ∙ ends
+      ap (λ lists. as_result (record { lists = lists; visits = visits mesh c })) (sym w.1) ∙ ap (λ n. as_result (record { lists = lists; visits = n })) (sym is) in
+      few_visits l ∙ ap (λ test. choice test entries_fault lists_and_visits) w.0 ∙ ends
 
 -- THE LISTS of a result are the stencils.
-same_result : (a b : Inferred) → as_inferred a ≡ as_inferred b → a ≡ b
+same_result : (a b : StencilLists) → as_result a ≡ as_result b → a ≡ b
 same_result a b e = cc
 
-lists_of : (mesh : MeshLists) (c : Comprehension) (k : ℕ) (result : Inferred) → inferred mesh c k ≡ Ok result → result.lists ≡ stencils mesh c
+lists_of : (mesh : MeshLists) (c : Comprehension) (k : ℕ) (result : StencilLists) → inference mesh c k ≡ Ok result → result.lists ≡ stencils mesh c
 lists_of mesh c k result e = elim (cases_Bool (nat_lt visit_limit (visits mesh c))) [
   | inl many ↦
       let fault : Err (past_limit (Visits k) visit_limit) ≡ Ok result =
-      sym (ap (λ test. by test (visits_fault mesh c k) (by (nat_lt entry_limit (entries (stencils mesh c))) (entries_fault mesh c k) (lists_and_visits mesh c k))) many) ∙ e in
+      sym (ap (λ test. choice test (visits_fault mesh c k) (choice (nat_lt entry_limit (entries (stencils mesh c))) (entries_fault mesh c k) (lists_and_visits mesh c k))) many) ∙ e in
       absurd cc
   | inr few ↦
-      let rest : by (nat_lt entry_limit (entries (stencils mesh c))) (entries_fault mesh c k) (lists_and_visits mesh c k) ≡ Ok result =
-      sym (ap (λ test. by test (visits_fault mesh c k) (by (nat_lt entry_limit (entries (stencils mesh c))) (entries_fault mesh c k) (lists_and_visits mesh c k))) few) ∙ e in
+      let rest : choice (nat_lt entry_limit (entries (stencils mesh c))) (entries_fault mesh c k) (lists_and_visits mesh c k) ≡ Ok result =
+      sym (ap (λ test. choice test (visits_fault mesh c k) (choice (nat_lt entry_limit (entries (stencils mesh c))) (entries_fault mesh c k) (lists_and_visits mesh c k))) few) ∙ e in
       elim (cases_Bool (nat_lt entry_limit (entries (stencils mesh c)))) [
         | inl past ↦
             let fault : Err (past_limit (Entries k) entry_limit) ≡ Ok result =
-            sym (ap (λ test. by test (entries_fault mesh c k) (lists_and_visits mesh c k)) past) ∙ rest in absurd cc
+            sym (ap (λ test. choice test (entries_fault mesh c k) (lists_and_visits mesh c k)) past) ∙ rest in absurd cc
         | inr fits ↦
-            let is : as_inferred (record { lists = stencils mesh c; visits = visits mesh c }) ≡ as_inferred result =
-            sym (ap (λ test. by test (entries_fault mesh c k) (lists_and_visits mesh c k)) fits) ∙ rest in
-            sym (ap (λ (value : Inferred). value.lists) (same_result (record { lists = stencils mesh c; visits = visits mesh c }) result is))
+            let is : as_result (record { lists = stencils mesh c; visits = visits mesh c }) ≡ as_result result =
+            sym (ap (λ test. choice test (entries_fault mesh c k) (lists_and_visits mesh c k)) fits) ∙ rest in
+            sym (ap (λ (value : StencilLists). value.lists) (same_result (record { lists = stencils mesh c; visits = visits mesh c }) result is))
       ]
 ]
 
@@ -276,7 +276,7 @@ at_id f first zero id list e = absurd cc
 at_id f first (suc size) zero list e = let at : first + 0 ≡ first = omega arith in ap f at ∙ same_list (f first) list e
 at_id f first (suc size) (suc id) list e = let at : first + suc id ≡ first + 1 + id = omega arith in ap f at ∙ at_id f (first + 1) size id list e
 
-pub lists_are_stencils : (mesh : MeshLists) (c : Comprehension) (k : ℕ) (result : Inferred) → ComprehensionFits c → inferred mesh c k ≡ Ok result → AreStencils mesh c result.lists
+pub lists_are_stencils : (mesh : MeshLists) (c : Comprehension) (k : ℕ) (result : StencilLists) → ComprehensionFits c → inference mesh c k ≡ Ok result → AreStencils mesh c result.lists
 lists_are_stencils mesh c k result fits e =
     let is = lists_of mesh c k result e in
     let ids : List ℕ = range_with_len 0 (count mesh c.over - 0) in

@@ -161,15 +161,15 @@ stencils mesh c = map (λ id. stencil_of (iteration_accesses mesh c id)) (number
 abbrev pub entries : List (List Access) → ℕ
 entries lists = sum_by (λ list. length list) lists
 
-pub record Inferred : Type 0 where
+pub record StencilLists : Type 0 where
   pub lists : List (List Access)
   pub visits : ℕ
 
 abbrev pub past_limit : LimitWhat → ℕ → LimitFault
 past_limit what limit = record { what = what; allowed = limit; found = limit + 1 }
 
-abbrev pub inferred : MeshLists → Comprehension → ℕ → Result Inferred LimitFault
-inferred mesh c k =
+abbrev pub inference : MeshLists → Comprehension → ℕ → Result StencilLists LimitFault
+inference mesh c k =
     if nat_lt visit_limit (visits mesh c) then Err (past_limit (Visits k) visit_limit)
     else if nat_lt entry_limit (entries (stencils mesh c)) then Err (past_limit (Entries k) entry_limit)
     else Ok (record { lists = stencils mesh c; visits = visits mesh c })

@@ -1,6 +1,6 @@
 //! The accesses of resolved code, gathered into a set.
 
-ghost use Rattle.std.specs.Prelude.{◌≡◌, ◌<◌, IfOk, OnOk, length, map, true};
+ghost use Rattle.std.specs.Prelude.{◌≡◌, ◌<◌, OnOk, length, map, true};
 ghost use Rattle.std.specs.List.{AllByRecursion};
 ghost use Rattle.phase_types.specs.Walk.{mode_by as ModeBy};
 ghost use Rattle.stencil_infer.specs.Internal.AccessSets.{Adds, HasGathered};

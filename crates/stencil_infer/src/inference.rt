@@ -1,9 +1,9 @@
 //! The stencils of a comprehension.
 
-ghost use Rattle.std.specs.Prelude.{◌≡◌, ◌<◌, IfOk, Ok, None, Some, if◌then◌else◌, length, min, nat_lt};
+ghost use Rattle.std.specs.Prelude.{◌≡◌, ◌<◌, IfOk, Ok, Some, length, min};
 ghost use Rattle.std.specs.List.{slice_set};
 ghost use Rattle.liszt_base.specs.Gives.{Gives};
-ghost use Rattle.liszt_base.specs.Limits.{entry_limit, visit_limit};
+ghost use Rattle.liszt_base.specs.Limits.{entry_limit};
 ghost use Rattle.liszt_tree.specs.Tree.{Main};
 ghost use Rattle.phase_types.specs.Checked.{checked_program};
 ghost use Rattle.phase_types.specs.Environments.{Comprehension, comprehension_of};
@@ -11,7 +11,7 @@ ghost use Rattle.topo_operators.specs.Operators.{unflipped};
 ghost use Rattle.stencil_infer.specs.Internal.CodeAccesses.{SlotsFit};
 ghost use Rattle.stencil_infer.specs.Internal.CodeIterations.{FitsSlots, IsCodeOf, within};
 ghost use Rattle.liszt_base.specs.declared.answers.Refused.TheVariants.{Fault};
-ghost use Rattle.stencil_infer.specs.Stencils.{entries, inferred, past_limit as PastLimit, stencils, visits};
+ghost use Rattle.stencil_infer.specs.Stencils.{inference, past_limit as PastLimit, stencils, visits};
 
 use crate::access_set::AccessSet;
 use crate::count::count_body;
@@ -126,7 +126,7 @@ pub fn infer(alloc: Global, c: &Checked, m: &Mesh, k: u32) -> Result<Stencils, R
     requires { k < length c.now.comprehensions }
     ensures { (program : Main) (comprehension : Comprehension)
         → checked_program program ≡ Ok c.now → comprehension_of program k ≡ Some comprehension
-        → Gives (inferred m.now comprehension k) result }
+        → Gives (inference m.now comprehension k) result }
 {
     c.is_checked();
     let code = &c.comprehensions()[k as usize];

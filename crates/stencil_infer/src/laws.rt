@@ -9,7 +9,7 @@ ghost use Rattle.phase_types.specs.Typed.{ComprehensionFits};
 ghost use Rattle.phase_types.specs.Walk.{OfField, mode_in};
 ghost use Rattle.kernel_eval.specs.Iterations.{acts};
 ghost use Rattle.kernel_eval.specs.States.{State};
-ghost use Rattle.stencil_infer.specs.Stencils.{AreStencils, Inferred, IsStencil, LiesIn, inferred, iteration_accesses, stencil_of};
+ghost use Rattle.stencil_infer.specs.Stencils.{AreStencils, StencilLists, IsStencil, LiesIn, inference, iteration_accesses, stencil_of};
 
 /// Each act of an iteration is one of its accesses, whatever the state, also if the iteration traps: its spot and mode are in the
 /// stencil.
@@ -38,7 +38,7 @@ pub fn iterations_have_one_stencil()
 {}
 
 /// The lists that the inference of a typed comprehension gives are the stencils of its iterations.
-pub fn inferred_lists_are_stencils()
-    ensures { (mesh : MeshLists) (c : Comprehension) (k : ℕ) (result : Inferred)
-        → ComprehensionFits c → inferred mesh c k ≡ Ok result → AreStencils mesh c result.lists }
+pub fn inference_gives_stencils()
+    ensures { (mesh : MeshLists) (c : Comprehension) (k : ℕ) (result : StencilLists)
+        → ComprehensionFits c → inference mesh c k ≡ Ok result → AreStencils mesh c result.lists }
 {}

@@ -13,16 +13,16 @@ pub struct Stencils {
 }
 
 impl Model for Stencils {
-    ghost use Rattle.stencil_infer.specs.Stencils.{Inferred};
+    ghost use Rattle.stencil_infer.specs.Stencils.{StencilLists};
 
-    ghost Value = { Inferred };
+    ghost Value = { StencilLists };
 
     ghost view = { λ s. record { lists = s.lists; visits = s.visits } };
 }
 
 impl Stencils {
     ghost use Rattle.std.specs.Prelude.{◌≡◌};
-    ghost use Rattle.stencil_infer.specs.Stencils.{Inferred};
+    ghost use Rattle.stencil_infer.specs.Stencils.{StencilLists};
 
     pub(crate) fn new(lists: AccessLists, visits: u64) -> Stencils
         ensures { result ≡ record { lists = lists; visits = visits } }

@@ -1,7 +1,7 @@
 use Rattle.std.proofs.Common.{◌≡◌, Some, Ok, Err, sym, ap, subst, ◌∙◌, arith}
 use Rattle.std.specs.Prelude.{slice_get}
 use Rattle.liszt_base.specs.Gives.{Gives}
-use Rattle.stencil_infer.specs.Stencils.{inferred}
+use Rattle.stencil_infer.specs.Stencils.{inference}
 use Rattle.stencil_infer.specs.Internal.CodeIterations.{IsCodeOf}
 use Rattle.stencil_infer.proofs.InferLemmas.{at_index, fits_slots, is_code, gives_visits, gives_entries, gives_lists}
 use Rattle.stencil_infer.proofs.inference.infer.Goals as goal
@@ -25,7 +25,7 @@ returns-then-visits-cap c = λ program comprehension is of.
     let code : IsCodeOf c.args.m.now comprehension c.index-comprehensions-k.result =
     is_code c.args.m.now program c.args.c.now c.args.k c.index-comprehensions-k.result comprehension is at of in
     let counted = c.count_iterations-visits.ensures.visits comprehension code in
-    subst (λ refused. Gives (inferred c.args.m.now comprehension c.args.k) (Err refused)) (sym c.past_limit.ensures)
+    subst (λ refused. Gives (inference c.args.m.now comprehension c.args.k) (Err refused)) (sym c.past_limit.ensures)
     (gives_visits c.args.m.now comprehension c.args.k (omega (arith, counted, c.if-visits-cap.true)))
 
 pub returns-in-None : goal.returns-in-None
@@ -35,7 +35,7 @@ returns-in-None c = λ program comprehension is of.
     let code : IsCodeOf c.args.m.now comprehension c.index-comprehensions-k.result =
     is_code c.args.m.now program c.args.c.now c.args.k c.index-comprehensions-k.result comprehension is at of in
     let counted = c.count_iterations-visits.ensures.visits comprehension code in
-    subst (λ refused. Gives (inferred c.args.m.now comprehension c.args.k) (Err refused)) (sym c.past_limit-in-None.ensures)
+    subst (λ refused. Gives (inference c.args.m.now comprehension c.args.k) (Err refused)) (sym c.past_limit-in-None.ensures)
     (gives_entries c.args.m.now comprehension c.args.k (omega (arith, counted, c.if-visits-cap.false)) (sym c.in-None.is ∙ c.in_ok-gather_iterations.ensures comprehension code))
 
 pub returns : goal.returns
