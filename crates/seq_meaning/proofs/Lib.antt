@@ -4,5 +4,6 @@ pub mod MainCodeLemmas
 pub mod MainPreservationLemmas
 pub mod MainValueLemmas
 pub mod PathLemmas
+pub mod SeqStoreLemmas
 pub mod StateShapeLemmas
 pub mod TypedRunLemmas

@@ -3,4 +3,7 @@
 
 mod cases;
 pub mod laws;
+mod seq_store;
 mod values;
+
+pub use seq_store::{FieldRange, SeqStore};
