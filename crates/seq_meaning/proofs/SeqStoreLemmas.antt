@@ -10,8 +10,9 @@ use Rattle.liszt_base.specs.declared.accesses.Spot.{Spot}
 use Rattle.phase_types.specs.declared.info.FieldInfo.{FieldInfo}
 use Rattle.phase_types.specs.Environments.{first_declared, is_built_in}
 use Rattle.code_eval.specs.Acts.{is_spot}
+use Rattle.code_eval.specs.Stores.{HasSameSpots}
 use Rattle.seq_meaning.specs.declared.seq_store.FieldRange.{FieldRange}
-use Rattle.seq_meaning.specs.SeqStores.{field_words, words_of, ranges_from, StoreWords, IsStoreOf, IsLaidOut, range_of, index_in, word_index, stored_value, HasSameRanges, filled, declared_value, value_after_store}
+use Rattle.seq_meaning.specs.SeqStores.{HasSpotsOf, has_element, has_spot, view_of, field_words, words_of, ranges_from, StoreWords, IsStoreOf, IsLaidOut, range_of, index_in, word_index, stored_value, HasSameRanges, filled, declared_value, value_after_store}
 
 -- LISTS
 within : {A : Type 0} (xs : List A) (i : ℕ) → i < length xs → (x : A) × (slice_get xs i ≡ Some x)
@@ -301,3 +302,55 @@ no_further_value fields mesh store is index id info e above =
 pub still_store : (fields : List FieldInfo) (mesh : MeshLists) (before after : StoreWords) → IsStoreOf fields mesh before
     → HasSameRanges before after → IsStoreOf fields mesh after
 still_store fields mesh before after is same = record { ranges = same.ranges ∙ is.ranges; words = same.words ∙ is.words }
+
+-- THE SPOTS that a store of fields has a value at are those of the fields.
+no_range : (mesh : MeshLists) (first : ℕ) (fields : List FieldInfo) (index : ℕ) → slice_get fields index ≡ None
+    → slice_get (ranges_from mesh first fields) index ≡ None
+no_range mesh first [] index e = refl
+no_range mesh first (info ∷ fields) zero e = absurd cc
+no_range mesh first (info ∷ fields) (suc index) e = no_range mesh (first + field_words mesh info) fields index e
+
+pub store_spots : (fields : List FieldInfo) (mesh : MeshLists) (store : StoreWords) → IsStoreOf fields mesh store → HasSpotsOf fields mesh store
+store_spots fields mesh store is = record { spots = at_spot } where
+  at_element : (index id : ℕ) (info : FieldInfo) → slice_get fields index ≡ Some info → (b : Bool) → nat_lt id (field_words mesh info) ≡ b
+      → is_some (stored_value store (record { field = first_declared + index; id = id })) ≡ b
+  at_element index id info e true h =
+      store_has_value fields mesh store is index id info e (ltb-true id (field_words mesh info) h)
+  at_element index id info e false h =
+      ap is_some (no_further_value fields mesh store is index id info e (ltb-false id (field_words mesh info) h))
+
+  at_field : (spot : Spot) → first_declared ≤ spot.field → (o : Option FieldInfo) → slice_get fields (spot.field - first_declared) ≡ o
+      → is_some (stored_value store spot) ≡ has_element mesh spot.id o
+  at_field spot declared None e =
+      let none : range_of store.ranges spot.field ≡ None =
+        rw (le-ltb spot.field first_declared declared, is.ranges) (no_range mesh 0 fields (spot.field - first_declared) e) in
+      rw none refl
+  at_field spot declared (Some info) e =
+      let field : first_declared + (spot.field - first_declared) ≡ spot.field = omega arith in
+      subst (λ n. is_some (stored_value store (record { field = n; id = spot.id })) ≡ nat_lt spot.id (field_words mesh info)) field
+      (at_element (spot.field - first_declared) spot.id info e (nat_lt spot.id (field_words mesh info)) refl)
+
+  at_spot : (spot : Spot) → is_some (stored_value store spot) ≡ has_spot fields mesh spot
+  at_spot spot = elim (cases_Bool (is_built_in spot.field)) [
+    | inl h ↦ rw h refl
+    | inr h ↦
+      let has : has_element mesh spot.id (slice_get fields (spot.field - first_declared)) ≡ has_spot fields mesh spot = rw h refl in
+      at_field spot (ltb-false spot.field first_declared h) (slice_get fields (spot.field - first_declared)) refl ∙ has
+  ]
+
+-- it still has them after each step that keeps the spots that may be loaded, and after each declaration
+pub still_spots : (fields : List FieldInfo) (mesh : MeshLists) (before after : StoreWords) → HasSpotsOf fields mesh before
+    → HasSameSpots (view_of before) (view_of after) → HasSpotsOf fields mesh after
+still_spots fields mesh before after has same =
+    record { spots = λ spot. ap (λ (loadable : Spot → Bool). loadable spot) same.loadable ∙ has.spots spot }
+
+pub spots_after_declaration : (fields : List FieldInfo) (mesh : MeshLists) (before after : StoreWords) (field : ℕ) (value : ℤ)
+    → HasSpotsOf fields mesh before
+    → ((spot : Spot) → stored_value after spot ≡ declared_value field value spot (stored_value before spot))
+    → HasSpotsOf fields mesh after
+spots_after_declaration fields mesh before after field value has values =
+    record { spots = λ spot. ap is_some (values spot) ∙ same (spot.field == field) (stored_value before spot) ∙ has.spots spot } where
+  same : (b : Bool) (old : Option ℤ) → is_some (if b then option_map (λ _. value) old else old) ≡ is_some old
+  same true None = refl
+  same true (Some x) = refl
+  same false old = refl

@@ -1,5 +1,5 @@
 -- The words of all declared fields of a sequential run. This project's own.
-use Rattle.std.specs.Prelude.{◌≡◌, ◌≤◌, ◌<◌, ℕ, zero, suc, ◌+◌, ◌-◌, ◌==◌, nat_lt, if◌then◌else◌, Option, Some, None, is_some, unwrap_or}
+use Rattle.std.specs.Prelude.{◌≡◌, ◌≤◌, ◌<◌, ℕ, zero, suc, ◌+◌, ◌-◌, ◌==◌, nat_lt, Bool, false, if◌then◌else◌, Option, Some, None, is_some, unwrap_or}
 use Rattle.std.specs.Prelude.{List, [], ◌∷◌, length, replicate, slice_get, slice_set, sum_by, ℤ, pos, Result, Ok, Err}
 use Rattle.std.specs.Option.{option_and_then, option_map}
 use Rattle.liszt_base.specs.Limits.{word_limit}
@@ -63,6 +63,20 @@ word_index ranges spot = option_and_then (λ range. index_in range spot.id) (ran
 -- THE VALUE of a spot, if its field is declared and has the element
 abbrev pub stored_value : StoreWords → Spot → Option ℤ
 stored_value store spot = option_and_then (slice_get store.words) (word_index store.ranges spot)
+
+-- THE SPOTS of declared fields on a mesh, which are those that a store of the fields has a value at
+abbrev pub info_of : List FieldInfo → ℕ → Option FieldInfo
+info_of fields field = if is_built_in field then None else slice_get fields (field - first_declared)
+
+abbrev pub has_element : MeshLists → ℕ → Option FieldInfo → Bool
+has_element mesh id None = false
+has_element mesh id (Some info) = nat_lt id (field_words mesh info)
+
+abbrev pub has_spot : List FieldInfo → MeshLists → Spot → Bool
+has_spot fields mesh spot = has_element mesh spot.id (info_of fields spot.field)
+
+pub record HasSpotsOf (fields : List FieldInfo) (mesh : MeshLists) (store : StoreWords) : Type 0 where
+  pub spots : (spot : Spot) → is_some (stored_value store spot) ≡ has_spot fields mesh spot
 
 -- no step changes the ranges or the number of words
 pub record HasSameRanges (before after : StoreWords) : Type 0 where

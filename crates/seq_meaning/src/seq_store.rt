@@ -4,7 +4,7 @@ ghost use Rattle.std.specs.Prelude.{◌≡◌, ◌≤◌, ◌+◌, IfOk, IsSome,
 ghost use Rattle.liszt_base.specs.Gives.{Gives};
 ghost use Rattle.liszt_base.specs.Limits.{word_limit};
 ghost use Rattle.liszt_base.specs.declared.accesses.Spot.{Spot as SpotOf};
-ghost use Rattle.seq_meaning.specs.SeqStores.{HasSameRanges, IsLaidOut, IsStoreOf, declared_value, filled, index_in, prepared_store, range_of as RangeOf, ranges_from, stored_value, value_after_store, view_of, word_index, words_of as WordsOf};
+ghost use Rattle.seq_meaning.specs.SeqStores.{HasSameRanges, HasSpotsOf, IsLaidOut, IsStoreOf, declared_value, filled, index_in, prepared_store, range_of as RangeOf, ranges_from, stored_value, value_after_store, view_of, word_index, words_of as WordsOf};
 
 use code_eval::Words;
 use liszt_base::{LimitFault, LimitWhat, NoMemory, Refused, Spot, WORD_LIMIT};
@@ -116,6 +116,7 @@ impl SeqStore {
     pub fn prepare(alloc: Global, c: &Checked, m: &Mesh) -> Result<SeqStore, Refused<LimitFault>>
         ensures gives { Gives (prepared_store c.now.fields m.now) result }
         ensures store { IfOk result (IsStoreOf c.now.fields m.now) }
+        ensures spots { IfOk result (HasSpotsOf c.now.fields m.now) }
     {
         let found = words_of(c, m);
         if found > WORD_LIMIT as u64 {
@@ -137,15 +138,14 @@ impl SeqStore {
         let _words = self.words.len();
     }
 
-    /// Declares a field: all of its elements have the value.
+    /// Declares a field: all of its elements have the value. A field that the store has no words for has no element.
     pub fn declare(&mut self, field: u32, value: i64)
-        requires { IsSome (RangeOf self.old.ranges field) }
         ensures same { HasSameRanges self.old self.new }
         ensures values { (spot : SpotOf) → stored_value self.new spot
             ≡ declared_value field value spot (stored_value self.old spot) }
     {
         let Some(range) = range_of(self.ranges.as_slice(), field) else {
-            unreachable!()
+            return;
         };
         fill(&mut self.words, range, value);
     }
