@@ -323,7 +323,7 @@ store_spots fields mesh store is = record { spots = at_spot } where
       → is_some (stored_value store spot) ≡ has_element mesh spot.id o
   at_field spot declared None e =
       let none : range_of store.ranges spot.field ≡ None =
-        rw (le-ltb spot.field first_declared declared, is.ranges) (no_range mesh 0 fields (spot.field - first_declared) e) in
+      rw (le-ltb spot.field first_declared declared, is.ranges) (no_range mesh 0 fields (spot.field - first_declared) e) in
       rw none refl
   at_field spot declared (Some info) e =
       let field : first_declared + (spot.field - first_declared) ≡ spot.field = omega arith in
@@ -334,8 +334,8 @@ store_spots fields mesh store is = record { spots = at_spot } where
   at_spot spot = elim (cases_Bool (is_built_in spot.field)) [
     | inl h ↦ rw h refl
     | inr h ↦
-      let has : has_element mesh spot.id (slice_get fields (spot.field - first_declared)) ≡ has_spot fields mesh spot = rw h refl in
-      at_field spot (ltb-false spot.field first_declared h) (slice_get fields (spot.field - first_declared)) refl ∙ has
+        let has : has_element mesh spot.id (slice_get fields (spot.field - first_declared)) ≡ has_spot fields mesh spot = rw h refl in
+        at_field spot (ltb-false spot.field first_declared h) (slice_get fields (spot.field - first_declared)) refl ∙ has
   ]
 
 -- it still has them after each step that keeps the spots that may be loaded, and after each declaration
@@ -350,7 +350,7 @@ pub spots_after_declaration : (fields : List FieldInfo) (mesh : MeshLists) (befo
     → HasSpotsOf fields mesh after
 spots_after_declaration fields mesh before after field value has values =
     record { spots = λ spot. ap is_some (values spot) ∙ same (spot.field == field) (stored_value before spot) ∙ has.spots spot } where
-  same : (b : Bool) (old : Option ℤ) → is_some (if b then option_map (λ _. value) old else old) ≡ is_some old
-  same true None = refl
-  same true (Some x) = refl
-  same false old = refl
+      same : (b : Bool) (old : Option ℤ) → is_some (if b then option_map (λ _. value) old else old) ≡ is_some old
+      same true None = refl
+      same true (Some x) = refl
+      same false old = refl

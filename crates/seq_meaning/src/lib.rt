@@ -4,6 +4,7 @@
 mod cases;
 pub mod laws;
 mod seq_store;
+mod store_cases;
 mod values;
 
 pub use seq_store::{FieldRange, SeqStore};
