@@ -6,4 +6,5 @@ pub mod MainValueLemmas
 pub mod PathLemmas
 pub mod SeqStoreLemmas
 pub mod StateShapeLemmas
+pub mod StoreFieldLemmas
 pub mod TypedRunLemmas

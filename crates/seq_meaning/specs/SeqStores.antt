@@ -12,6 +12,7 @@ use Rattle.phase_types.specs.declared.info.FieldInfo.{FieldInfo}
 use Rattle.phase_types.specs.Environments.{first_declared, is_built_in}
 use Rattle.code_eval.specs.Acts.{is_spot}
 use Rattle.code_eval.specs.Stores.{StoreView}
+use Rattle.kernel_eval.specs.States.{Fields, value_in}
 use Rattle.seq_meaning.specs.declared.seq_store.FieldRange.{FieldRange}
 
 -- THE WORDS of declared fields: one for each element of each field
@@ -94,6 +95,10 @@ declared_value field value spot old = if spot.field == field then option_map (λ
 
 abbrev pub value_after_store : Spot → ℤ → Spot → Option ℤ → Option ℤ
 value_after_store spot value other old = if is_spot spot other then Some value else old
+
+-- A STORE HOLDS THE FIELDS of a state, if it has each of their values.
+pub record HoldsFields (fields : Fields) (store : StoreWords) : Type 0 where
+  pub values : (spot : Spot) (value : ℤ) → value_in fields spot ≡ Some value → stored_value store spot ≡ Some value
 
 -- THE VIEW of a store: the spots that have a value may be loaded and stored; no spot has a flag, and there is no log.
 abbrev pub view_of : StoreWords → StoreView

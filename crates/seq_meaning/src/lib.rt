@@ -5,6 +5,7 @@ mod cases;
 pub mod laws;
 mod seq_store;
 mod store_cases;
+pub mod store_laws;
 mod values;
 
 pub use seq_store::{FieldRange, SeqStore};
