@@ -1,13 +1,13 @@
 -- Stores hold the fields of a state, through declarations and acts.
-use Rattle.std.proofs.Common.{◌≡◌, ◌<◌, ℕ, zero, suc, ◌+◌, ◌-◌, ◌==◌, Bool, true, false, List, [], ◌∷◌, refl, sym, subst, ap, ◌∙◌, inl, inr, arith}
+use Rattle.std.proofs.Common.{◌≡◌, ◌<◌, ℕ, zero, suc, ◌+◌, ◌-◌, ◌==◌, Bool, true, false, List, [], ◌∷◌, ◌++◌, refl, sym, subst, ap, ◌∙◌, inl, inr, arith}
 use Rattle.std.proofs.lemmas.Bool.{cases_Bool, lt-ltb, le-ltb}
 use Rattle.std.proofs.lemmas.Bool.Decides.{nat_tests}
 use Rattle.std.specs.Prelude.{Option, Some, None, is_some, unwrap_or, slice_get, replicate, if◌then◌else◌, ℤ, pos}
-use Rattle.std.specs.Option.{option_map}
+use Rattle.std.specs.Option.{option_and_then, option_map}
 use Rattle.liszt_base.specs.MeshLists.{MeshLists}
 use Rattle.liszt_base.specs.declared.accesses.Spot.{Spot}
 use Rattle.phase_types.specs.declared.info.FieldInfo.{FieldInfo}
-use Rattle.phase_types.specs.Environments.{first_declared, is_built_in}
+use Rattle.phase_types.specs.Environments.{first_declared, is_built_in, lookup}
 use Rattle.code_eval.specs.Acts.{Act, is_spot, value_by, value_after}
 use Rattle.code_eval.specs.Stores.{HasActed}
 use Rattle.kernel_eval.specs.Preservation.{value_after_acts}
@@ -106,3 +106,29 @@ holds_after_acts before after live later acts holds acted values = record { valu
       let same : unwrap_or (stored_value after spot) (pos 0) ≡ value_after acts spot old =
       acted.values spot ∙ ap (λ o. value_after acts spot (unwrap_or o (pos 0))) held in
       later_value.1 ∙ ap Some (ap (λ o. unwrap_or o (pos 0)) (sym later_value.1) ∙ same ∙ value)
+
+-- THE END OF A SCOPE leaves the fields of the scopes around it.
+lookup_after : (field : ℕ) (closed rest : Fields) → lookup (λ other. other == field) closed ≡ None
+    → lookup (λ other. other == field) (closed ++ rest) ≡ lookup (λ other. other == field) rest
+lookup_after field [] rest none = refl
+lookup_after field (entry ∷ closed) rest none = elim (cases_Bool (entry.0 == field)) [
+  | inl h ↦
+      let is : lookup (λ other. other == field) (entry ∷ closed) ≡ Some entry.1 = rw h refl in
+      absurd cc
+  | inr h ↦
+      let is : lookup (λ other. other == field) (entry ∷ closed) ≡ lookup (λ other. other == field) closed = rw h refl in
+      rw h (lookup_after field closed rest (sym is ∙ none))
+]
+
+pub holds_after_scope : (store : StoreWords) (closed rest : Fields) → HoldsFields (closed ++ rest) store
+    → ((number : ℕ) → is_some (lookup (λ other. other == number) rest) ≡ true → lookup (λ other. other == number) closed ≡ None)
+    → HoldsFields rest store
+holds_after_scope store closed rest holds apart = record { values = λ spot x is. holds.values spot x (same spot x is ∙ is) } where
+  is_there : (o : Option (List ℤ)) (id : ℕ) (x : ℤ) → option_and_then (λ values. slice_get values id) o ≡ Some x → is_some o ≡ true
+  is_there None id x e = absurd cc
+  is_there (Some values) id x e = refl
+
+  same : (spot : Spot) (x : ℤ) → value_in rest spot ≡ Some x → value_in (closed ++ rest) spot ≡ value_in rest spot
+  same spot x is =
+      let there = is_there (lookup (λ other. other == spot.field) rest) spot.id x is in
+      ap (option_and_then (λ values. slice_get values spot.id)) (lookup_after spot.field closed rest (apart spot.field there))

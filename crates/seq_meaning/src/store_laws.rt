@@ -1,10 +1,10 @@
 //! Laws of stores of declared fields, each the contract of a function that does nothing.
 
-ghost use Rattle.std.specs.Prelude.{◌≡◌, ◌≢◌, ◌+◌, ℕ, ℤ, List, Some, ◌∷◌, false, replicate, slice_get};
+ghost use Rattle.std.specs.Prelude.{◌≡◌, ◌≢◌, ◌+◌, ◌==◌, ℕ, ℤ, List, Some, None, ◌∷◌, ◌++◌, true, false, is_some, replicate, slice_get};
 ghost use Rattle.liszt_base.specs.MeshLists.{MeshLists};
 ghost use Rattle.liszt_base.specs.declared.accesses.Spot.{Spot as SpotOf};
 ghost use Rattle.mesh_topology.specs.Elements.{count};
-ghost use Rattle.phase_types.specs.Environments.{first_declared};
+ghost use Rattle.phase_types.specs.Environments.{first_declared, lookup};
 ghost use Rattle.phase_types.specs.declared.info.FieldInfo.{FieldInfo as FieldOf};
 ghost use Rattle.code_eval.specs.Acts.{Act, is_spot};
 ghost use Rattle.code_eval.specs.Stores.{HasActed, HasSameSpots};
@@ -37,8 +37,8 @@ pub fn stores_keep_their_spots()
         → HasSpotsOf fields mesh after }
 {}
 
-/// A store that holds the fields of a state holds them with a further field after its declaration, and holds those after acts where
-/// it has done the acts.
+/// A store that holds the fields of a state holds them with a further field after its declaration, holds those after acts where it has
+/// done the acts, and holds the remaining ones at the end of a scope, whose fields have other numbers.
 pub fn stores_hold_fields()
     ensures declarations { (fields : List FieldOf) (mesh : MeshLists) (before after : StoreWords)
         (live : Fields) (index : ℕ) (info : FieldOf) (value : ℤ)
@@ -55,4 +55,9 @@ pub fn stores_hold_fields()
         → ((spot : SpotOf) → value_in later spot
         ≡ value_after_acts spot (value_in live spot) acts)
         → HoldsFields later after }
+    ensures scopes { (store : StoreWords) (closed rest : Fields)
+        → HoldsFields (closed ++ rest) store
+        → ((number : ℕ) → is_some (lookup (λ other. other == number) rest) ≡ true
+        → lookup (λ other. other == number) closed ≡ None)
+        → HoldsFields rest store }
 {}
