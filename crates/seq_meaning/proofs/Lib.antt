@@ -4,5 +4,7 @@ pub mod MainCodeLemmas
 pub mod MainPreservationLemmas
 pub mod MainValueLemmas
 pub mod PathLemmas
+pub mod SeqStoreLemmas
 pub mod StateShapeLemmas
+pub mod StoreFieldLemmas
 pub mod TypedRunLemmas

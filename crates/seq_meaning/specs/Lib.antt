@@ -2,3 +2,4 @@ pub mod Internal
 pub mod MainCode
 pub mod MainValues
 pub mod Runs
+pub mod SeqStores

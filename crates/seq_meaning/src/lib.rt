@@ -3,4 +3,9 @@
 
 mod cases;
 pub mod laws;
+mod seq_store;
+mod store_cases;
+pub mod store_laws;
 mod values;
+
+pub use seq_store::{FieldRange, SeqStore};
