@@ -28,7 +28,7 @@ turns_kept =
       local = λ name n m. omega arith;
       local_set = λ name n m. omega arith;
       element = λ name x m. omega arith;
-      read = λ spot n m any. omega arith;
+      read = λ spot n m any e. omega arith;
       spot_set = λ spot how n old m any e. omega arith;
       scalar_assignment = λ how n scalar old m any e. omega (arith, folded_turns how n scalar old m);
       block = λ before m r. r;
@@ -75,7 +75,7 @@ fields_made =
       local = λ name n m. no_act m _ refl refl;
       local_set = λ name n m. no_act m _ refl refl;
       element = λ name x m. no_act m _ refl refl;
-      read = λ spot n m any. record {
+      read = λ spot n m any e. record {
         new_acts = record { spot = spot; mode = Read; value = n } ∷ [];
         acts_are = refl;
         fields_are = sym (read_changes_nothing spot n (value_in m.state.fields spot) m.state.fields);

@@ -58,7 +58,7 @@ modes_kept c =
       local = λ name n m. unchanged c m;
       local_set = λ name n m. unchanged c m;
       element = λ name x m. unchanged c m;
-      read = λ spot n m h. (λ all. all_and_one _ m.acts _ all h, λ all. all, λ field none. refl);
+      read = λ spot n m h e. (λ all. all_and_one _ m.acts _ all h, λ all. all, λ field none. refl);
       spot_set = λ spot how n old m h e. (
         λ all. all_and_one _ m.acts _ all h,
         λ all. all,

@@ -1,6 +1,7 @@
 pub mod AccessLemmas
 pub mod ActLemmas
 pub mod ActModeLemmas
+pub mod AllowedAccessLemmas
 pub mod BindingLemmas
 pub mod CodeIterationLemmas
 pub mod CommutationLemmas
@@ -8,9 +9,12 @@ pub mod ComputationLemmas
 pub mod ConditionLemmas
 pub mod ElementBindingLemmas
 pub mod ElementExpressionLemmas
+pub mod HeldFieldLemmas
+pub mod HeldStateLemmas
 pub mod HistoryLemmas
 pub mod LoopLemmas
 pub mod MainExpressionLemmas
+pub mod NumberListLemmas
 pub mod PartLemmas
 pub mod PreservationLemmas
 pub mod ReductionLemmas
@@ -18,7 +22,6 @@ pub mod ResolvedExpressionLemmas
 pub mod ResolvedStatementLemmas
 pub mod ResolvingLemmas
 pub mod RunningLemmas
-pub mod ScalarAccessLemmas
 pub mod ShapeLemmas
 pub mod SimulationLemmas
 pub mod SlotCountLemmas

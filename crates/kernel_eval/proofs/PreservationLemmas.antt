@@ -1,7 +1,7 @@
 -- Meanings preserve a relation that each of their single changes preserves. A change of a field or a scalar must preserve it only for the
 -- accesses of the body.
-use Rattle.std.proofs.Common.{◌≡◌, ℕ, suc, List, refl}
-use Rattle.std.specs.Prelude.{Option, Some, None, ℤ, Result, Ok, Err}
+use Rattle.std.proofs.Common.{◌≡◌, ℕ, suc, false, List, refl, sym, ap, ◌∙◌}
+use Rattle.std.specs.Prelude.{Option, Some, None, ℤ, if◌then◌else◌, Result, Ok, Err}
 use Rattle.liszt_base.specs.MeshLists.{MeshLists}
 use Rattle.liszt_base.specs.declared.accesses.Mode.TheVariants.{Read}
 use Rattle.liszt_base.specs.declared.accesses.Spot.{Spot}
@@ -10,12 +10,12 @@ use Rattle.liszt_base.specs.declared.answers.TrapKind.TheVariants.{Spent}
 use Rattle.liszt_base.specs.declared.elements.Elem.{Elem}
 use Rattle.liszt_tree.specs.declared.tree.How.{How}
 use Rattle.liszt_tree.specs.Tree.{Expression, Body}
-use Rattle.phase_types.specs.Environments.{Environment, Binding, ScalarName}
+use Rattle.phase_types.specs.Environments.{Environment, Binding, ScalarName, is_built_in}
 use Rattle.phase_types.specs.Walk.{OfField, OfScalar, mode_by}
 use Rattle.kernel_eval.specs.Preservation.{Preserves}
 use Rattle.kernel_eval.specs.Outcomes.{Stop, Outcome, continue_with, modify}
 use Rattle.kernel_eval.specs.States.{EvaluationState, value_in, with_value, with_fields, with_scalar_value, scalar_value, with_local, with_local_value, with_element, with_act, with_state, after_block, local_bound_to, element_bound_to}
-use Rattle.kernel_eval.specs.Meaning.{scalar_read, global_read, name_read, read_spot, spot_value, number_in, truth_in, operand, assigned_value, assign_spot, with_scalar_fold, assign_scalar, assign_global, assign_name, in_block, evaluation_turns, body_meaning, trap}
+use Rattle.kernel_eval.specs.Meaning.{scalar_read, global_read, name_read, read_spot, spot_value, built_in_value, number_in, truth_in, operand, assigned_value, assign_spot, with_scalar_fold, assign_scalar, assign_global, assign_name, in_block, evaluation_turns, body_meaning, trap}
 use Rattle.kernel_eval.proofs.ComputationLemmas.{IsPreorder, keeps_then, keeps_loop}
 use Rattle.kernel_eval.proofs.TraversalLemmas.{Access, TouchesScalar, Touches, BodyTouches, Computes, Only, IsTraversedByExpressions, IsTraversed, over_number, over_truth, over_body}
 
@@ -26,7 +26,8 @@ pub record IsFilter (P : Access → Type 0) (R : EvaluationState → EvaluationS
   pub local : (name : List ℕ) (n : ℤ) (m : EvaluationState) → R m (with_local name n m)
   pub local_set : (name : List ℕ) (n : ℤ) (m : EvaluationState) → R m (with_local_value name n m)
   pub element : (name : List ℕ) (x : Option Elem) (m : EvaluationState) → R m (with_element name x m)
-  pub read : (spot : Spot) (n : ℤ) (m : EvaluationState) → P (OfField spot.field, Read) → R m (with_act (record { spot = spot; mode = Read; value = n }) m)
+  pub read : (spot : Spot) (n : ℤ) (m : EvaluationState) → P (OfField spot.field, Read) → (is_built_in spot.field ≡ false → value_in m.state.fields spot ≡ Some n)
+      → R m (with_act (record { spot = spot; mode = Read; value = n }) m)
   pub spot_set : (spot : Spot) (how : How) (n old : ℤ) (m : EvaluationState) → P (OfField spot.field, mode_by how) → value_in m.state.fields spot ≡ Some old
       → R m (with_act (record { spot = spot; mode = mode_by how; value = operand how n }) (with_state (with_fields (with_value spot (assigned_value how old n) m.state.fields) m.state) m))
   pub scalar_assignment : (how : How) (n : ℤ) (scalar : ℕ) (old : ℤ) (m : EvaluationState) → P (OfScalar scalar, mode_by how) → scalar_value m.state scalar ≡ Some old
@@ -52,9 +53,11 @@ module _ {P : Access → Type 0} {R : EvaluationState → EvaluationState → Ty
   keeps_name_read None (Some x) global = record { preserved = k.same }
   keeps_name_read None None global = keeps_global_read global
 
-  keeps_read_spot : (spot : Spot) (value : Option ℤ) → P (OfField spot.field, Read) → Preserves R (read_spot spot value)
-  keeps_read_spot spot (Some n) h = record { preserved = λ m. k.read spot n m h }
-  keeps_read_spot spot None h = record { preserved = k.same }
+  keeps_read_spot : (mesh : MeshLists) (spot : Spot) (m : EvaluationState) (value : Option ℤ) → P (OfField spot.field, Read) → spot_value mesh m.state spot ≡ value
+      → R m (read_spot spot value m).after
+  keeps_read_spot mesh spot m (Some n) h e =
+      k.read spot n m h (λ declared. ap (λ b. if b then built_in_value mesh spot else value_in m.state.fields spot) (sym declared) ∙ e)
+  keeps_read_spot mesh spot m None h e = k.same m
 
   keeps_spot : (spot : Spot) (how : How) (n : ℤ) (m : EvaluationState) (value : Option ℤ) → P (OfField spot.field, mode_by how)
       → value_in m.state.fields spot ≡ value → R m (assign_spot spot how n value m).after
@@ -104,7 +107,7 @@ module _ {P : Access → Type 0} {R : EvaluationState → EvaluationState → Ty
         traps = λ kind place. record { preserved = k.same };
         then_of = λ f h. keeps_then leads f h;
         name_of = λ name global. record { preserved = λ m. (keeps_name_read (local_bound_to m name) (element_bound_to m name) global).preserved m };
-        read_of = λ mesh spot h. record { preserved = λ m. (keeps_read_spot spot (spot_value mesh m.state spot) h).preserved m };
+        read_of = λ mesh spot h. record { preserved = λ m. keeps_read_spot mesh spot m (spot_value mesh m.state spot) h refl };
       }
 
   traversed : IsTraversed P Kept

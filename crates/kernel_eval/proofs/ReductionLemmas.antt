@@ -27,7 +27,7 @@ use Rattle.kernel_eval.specs.Preservation.{FoldsByTheMode, ChangesNothing, scala
 use Rattle.kernel_eval.specs.States.{map_update, State, ScalarFold, EvaluationState, scalar_value, with_state, with_scalar_value}
 use Rattle.kernel_eval.proofs.ActModeLemmas.{iteration_in_modes}
 use Rattle.kernel_eval.proofs.PreservationLemmas.{IsFilter, keeps_body}
-use Rattle.kernel_eval.proofs.ScalarAccessLemmas.{WritesNoScalar, writes_no_scalar}
+use Rattle.kernel_eval.proofs.AllowedAccessLemmas.{IsAllowed, all_allowed}
 use Rattle.kernel_eval.proofs.ValueLemmas.{no_value}
 use Rattle.liszt_base.proofs.Operators.{word_below, commutes, associates}
 
@@ -55,7 +55,7 @@ both a b c r s =
       prints_are = s.prints_are ∙ r.prints_are;
     }
 
-reduced : (how : How) (n : ℤ) (scalar : ℕ) (old : ℤ) (m : EvaluationState) → WritesNoScalar (OfScalar scalar, mode_by how) → scalar_value m.state scalar ≡ Some old
+reduced : (how : How) (n : ℤ) (scalar : ℕ) (old : ℤ) (m : EvaluationState) → IsAllowed (OfScalar scalar, mode_by how) → scalar_value m.state scalar ≡ Some old
     → FoldsDetermineScalars m (with_scalar_fold how scalar n (with_state (with_scalar_value scalar (assigned_value how old n) m.state) m))
 reduced Set n scalar old m h e = absurd h
 reduced (Fold op) n scalar old m h e = record {
@@ -71,7 +71,7 @@ reduced Less n scalar old m h e = record {
   prints_are = refl;
 }
 
-scalars_made : IsFilter WritesNoScalar FoldsDetermineScalars
+scalars_made : IsFilter IsAllowed FoldsDetermineScalars
 scalars_made =
     record {
       same = λ m. no_fold m m refl refl refl;
@@ -79,7 +79,7 @@ scalars_made =
       local = λ name n m. no_fold m _ refl refl refl;
       local_set = λ name n m. no_fold m _ refl refl refl;
       element = λ name x m. no_fold m _ refl refl refl;
-      read = λ spot n m any. no_fold m _ refl refl refl;
+      read = λ spot n m any e. no_fold m _ refl refl refl;
       spot_set = λ spot how n old m any e. no_fold m _ refl refl refl;
       scalar_assignment = λ how n scalar old m h e. reduced how n scalar old m h e;
       block = λ before m r. record { new_folds = r.new_folds; folds_are = r.folds_are; scalars_are = r.scalars_are; prints_are = r.prints_are };
@@ -89,7 +89,7 @@ scalars_made =
 pub iteration_folds : (mesh : MeshLists) (c : Comprehension) (turns : ℕ) (s : State) (id : ℕ) → ComprehensionFits c
     → FoldsDetermineScalars (iteration_start c turns s id) (iteration mesh c turns s id).after
 iteration_folds mesh c turns s id fits =
-    (keeps_body scalars_made mesh c.environment c.body (writes_no_scalar c fits)).preserved (iteration_start c turns s id)
+    (keeps_body scalars_made mesh c.environment c.body (all_allowed c fits)).preserved (iteration_start c turns s id)
 
 pub iteration_scalars : (mesh : MeshLists) (c : Comprehension) (turns : ℕ) (s : State) (id : ℕ) → ComprehensionFits c
     → (iteration mesh c turns s id).after.state.scalars ≡ scalars_after s.scalars (iteration mesh c turns s id).after.folds

@@ -177,7 +177,7 @@ shapes_kept =
         locals = record { new = []; is = refl };
         elements = record { new = (name, x) ∷ []; is = refl };
       };
-      read = λ spot n m any. no_new_entries m _ (same_names m _ (like_itself m.state) refl refl);
+      read = λ spot n m any e. no_new_entries m _ (same_names m _ (like_itself m.state) refl refl);
       spot_set = λ spot how n old m any e. no_new_entries m _ (spot_set spot how n old m);
       scalar_assignment = λ how n scalar old m any e. no_new_entries m _ (reduced how n scalar old m);
       block = λ before m r. no_new_entries before _ (block_shape_preserved before m r);

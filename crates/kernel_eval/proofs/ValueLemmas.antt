@@ -55,14 +55,14 @@ at_id i j value old (Some xs) e false is = elim (eqb_tells j i) [
 ]
 
 -- a value is set at one spot, where there was one
-set_value : (spot other : Spot) (value old : ℤ) (fields : Fields) → value_in fields spot ≡ Some old
+pub set_value : (spot other : Spot) (value old : ℤ) (fields : Fields) → value_in fields spot ≡ Some old
     → value_in (with_value spot value fields) other ≡ (if is_spot other spot then Some value else value_in fields other)
 set_value spot other value old fields e = elim (eqb_tells other.field spot.field) [
   | inl h ↦ rw (h.0, h.1, of_field spot value fields) (at_id spot.id other.id value old (values_of fields spot.field) e (other.id == spot.id) refl)
   | inr h ↦ rw (h.0, of_other spot value other.field h.1 fields) refl
 ]
 
-here : (spot other : Spot) → is_spot other spot ≡ true → other ≡ spot
+pub here : (spot other : Spot) → is_spot other spot ≡ true → other ≡ spot
 here spot other e = go (other.field == spot.field) (other.id == spot.id) refl refl e where
   go : (a b : Bool) → other.field == spot.field ≡ a → other.id == spot.id ≡ b → (a && b) ≡ true → other ≡ spot
   go true true a b e = grind (arith, nat_tests)

@@ -1,6 +1,7 @@
 pub mod CodeIterations
 pub mod Expressions
 pub mod Fits
+pub mod HeldFields
 pub mod Internal
 pub mod Iterations
 pub mod Meaning

@@ -28,11 +28,16 @@ pub record IsPrepared (checked : CheckedProgram) (a : Activation) : Type 0 where
   pub scalars : length a.scalars ≡ length checked.scalars
   pub partials : length a.partials ≡ length checked.scalars
 
--- IT HAS BEGUN a comprehension: it has these scalars, and the partial of each scalar that is reduced is the identity of its operator.
+-- the partial of each scalar that a comprehension reduces is the identity of its operator there
+abbrev pub HasIdentities : CheckedProgram → ℕ → List ℤ → Type 0
+HasIdentities checked k partials =
+    (scalar : ℕ) (op : Op) → scalar < length checked.scalars → checked_mode checked k (OfScalar scalar) ≡ Some (Reduce op)
+    → get_or partials scalar (pos 0) ≡ identity_of op
+
+-- IT HAS BEGUN a comprehension: it has these scalars, and the identities as partials.
 pub record HasBegun (checked : CheckedProgram) (k : ℕ) (scalars : List ℤ) (a : Activation) : Type 0 where
   pub scalars_are : a.scalars ≡ scalars
-  pub partials_are : (scalar : ℕ) (op : Op) → scalar < length checked.scalars
-      → checked_mode checked k (OfScalar scalar) ≡ Some (Reduce op) → get_or a.partials scalar (pos 0) ≡ identity_of op
+  pub partials_are : HasIdentities checked k a.partials
 
 -- AN ITERATION CAN RUN from a state of a tree of which the program is checked: the state fits, the activation has the scalars that
 -- the comprehension reads, and the store admits the acts.

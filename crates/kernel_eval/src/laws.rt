@@ -11,24 +11,28 @@ ghost use Rattle.liszt_base.specs.Reductions.{InRange, fold};
 ghost use Rattle.liszt_base.specs.declared.accesses.Mode.TheVariants.{Reduce};
 ghost use Rattle.liszt_base.specs.declared.accesses.Spot.{Spot};
 ghost use Rattle.liszt_base.specs.declared.elements.Elem.{Elem};
+ghost use Rattle.liszt_base.specs.declared.elements.Kind.{Kind};
 ghost use Rattle.liszt_base.specs.declared.elements.Op.{Op};
 ghost use Rattle.liszt_base.specs.declared.answers.TrapKind.TheVariants.{Spent};
 ghost use Rattle.liszt_tree.specs.declared.tree.How.{How};
 ghost use Rattle.liszt_tree.specs.Tree.{Body, Expression, Main, Statement, While, statement};
 ghost use Rattle.mesh_topology.specs.Elements.{corner_lists, count};
 ghost use Rattle.resolved_code.specs.declared.items.ComprehensionCode.{ComprehensionCode};
-ghost use Rattle.phase_types.specs.Checked.{checked_program};
+ghost use Rattle.phase_types.specs.Checked.{IsChecked, checked_kind, checked_program};
 ghost use Rattle.phase_types.specs.declared.state.CheckedProgram.{CheckedProgram};
 ghost use Rattle.phase_types.specs.Environments.{Binding, Comprehension, Environment, comprehension_of, lookup};
 ghost use Rattle.phase_types.specs.Typed.{ComprehensionFits};
 ghost use Rattle.phase_types.specs.Walk.{OfField, OfScalar, mode_in};
 ghost use Rattle.code_eval.specs.Meaning.{body_execution};
+ghost use Rattle.code_eval.specs.Stores.{Admits, HasActed, StoreView};
 ghost use Rattle.code_eval.specs.declared.activation.Activation.{Activation};
 ghost use Rattle.kernel_eval.specs.CodeIterations.{IsReady, HasValues, DoesIteration};
 ghost use Rattle.kernel_eval.specs.Expressions.{element_value, elements_after};
 ghost use Rattle.kernel_eval.specs.Fits.{StateFits};
+ghost use Rattle.kernel_eval.specs.HeldFields.{HasRoomFor, HoldsFields, HoldsScalars};
 ghost use Rattle.kernel_eval.specs.Iterations.{acts, iteration, iteration_end, partial};
 ghost use Rattle.kernel_eval.specs.Preservation.{ChangesNothing, FoldsByTheMode, HasNoMoreTurns, HasTheMode, Preserves, ActsDetermineFields, ActsDetermineValues, Commutes, with_earlier, field_values, loop_unfolded, scalars_after};
+ghost use Rattle.kernel_eval.specs.Running.{CanIterate, HasBegun};
 ghost use Rattle.kernel_eval.specs.Outcomes.{Stop, halt, pure};
 ghost use Rattle.kernel_eval.specs.States.{Act, EvaluationState, ScalarFold, State, field_lengths, known_scalars, local_bound_to, main_evaluation, scalar_value};
 ghost use Rattle.kernel_eval.specs.Meaning.{ElementValue, assign_name, assigned_value, body_meaning, meaning, in_block, evaluation_turns, statement_meaning, trap, truth_in};
@@ -203,4 +207,34 @@ pub fn resolved_code_does_its_iterations()
         → ComprehensionFits c → StateFits mesh c.environment s → id < count mesh c.over
         → IsReady code c turns s id a → HasValues c s values
         → DoesIteration mesh c turns s id a (body_execution mesh code.body values a) }
+{}
+
+/// A store that holds the fields of a state admits the acts of each iteration of a typed comprehension from that state, and after them
+/// it holds the fields of the state after the iteration, also if that trapped.
+pub fn stores_hold_fields_through_iterations()
+    ensures admits { (mesh : MeshLists) (c : Comprehension) (turns : ℕ) (s : State) (id : ℕ)
+        (store : StoreView)
+        → ComprehensionFits c → HoldsFields s store → Admits store (acts mesh c turns s id) }
+    ensures after { (mesh : MeshLists) (c : Comprehension) (turns : ℕ) (s : State) (id : ℕ)
+        (store later : StoreView)
+        → HoldsFields s store → HasActed (acts mesh c turns s id) store later
+        → HoldsFields (iteration mesh c turns s id).after.state later }
+{}
+
+/// Locals that have begun a comprehension can run its iterations: from a state whose scalars and fields the locals and the store hold;
+/// and over each store that has room for the declared fields of the program, from the state that the store then holds.
+pub fn begun_locals_can_iterate()
+    ensures from_state { (program : Main) (checked : CheckedProgram) (k : ℕ) (c : Comprehension)
+        (mesh : MeshLists) (turns : ℕ) (s : State) (id : ℕ) (scalars : List ℤ) (a : Activation)
+        (store : StoreView)
+        → checked_program program ≡ Ok checked → comprehension_of program k ≡ Some c
+        → StateFits mesh c.environment s → HoldsScalars s scalars → HasBegun checked k scalars a
+        → id < count mesh c.over → HoldsFields s store
+        → CanIterate checked k mesh turns id a store }
+    ensures over_any_store { (checked : CheckedProgram) (k : ℕ) (over : Kind) (mesh : MeshLists)
+        (turns id : ℕ) (scalars : List ℤ) (a : Activation) (store : StoreView)
+        → IsChecked checked → checked_kind checked k ≡ Some over
+        → length scalars ≡ length checked.scalars → HasBegun checked k scalars a
+        → id < count mesh over → HasRoomFor checked.fields mesh store
+        → CanIterate checked k mesh turns id a store }
 {}

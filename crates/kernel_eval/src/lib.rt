@@ -6,6 +6,7 @@ mod cases;
 mod iteration;
 pub mod laws;
 mod locals;
+mod shared;
 
 pub use code_eval::Words;
 pub use iteration::run_iteration;

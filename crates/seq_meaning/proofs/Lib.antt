@@ -9,5 +9,7 @@ pub mod MainValueLemmas
 pub mod MainStepLemmas
 pub mod NestingLemmas
 pub mod PathLemmas
+pub mod SeqStoreLemmas
 pub mod StateShapeLemmas
+pub mod StoreFieldLemmas
 pub mod TypedRunLemmas

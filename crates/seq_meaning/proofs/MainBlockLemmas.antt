@@ -44,8 +44,8 @@ pub continues_then : {w : World} {r mid after : MainRun} {level : ℕ} {outside 
     (h : Continues w level outside items p remaining r mid) → Continues w level outside items h.later h.rest mid after → Continues w level outside items p remaining r after
 continues_then h g = record { later = g.later; rest = g.rest; is = h.is ∙ g.is; path = g.path ∙ h.path; fields = g.fields ∙ h.fields; stands = g.stands; depth = g.depth ∙ h.depth }
 
-module _ {w : World} {r mid after : MainRun} {level : ℕ} {outside : List ℕ} {items : List ItemCode} {p : Progress} {remaining : Computation Progress Done}
-    (h : Continues w level outside items p remaining r mid) where
+module _ {w : World} {r mid : MainRun} {level : ℕ} {outside : List ℕ} {items : List ItemCode} {p : Progress} {remaining : Computation Progress Done}
+    (h : Continues w level outside items p remaining r mid) (after : MainRun) where
   goes_then : (event : Event) (Changes : Fields → Fields → Type 0) → GoesOn w event Changes level outside items h.later h.rest after → GoesOn w event Changes level outside items p remaining after
   goes_then event Changes g = record { later = g.later; rest = g.rest; is = h.is ∙ g.is; path = g.path ∙ h.path; fields = subst (λ fields. Changes fields g.later.state.fields) h.fields g.fields; stands = g.stands }
 

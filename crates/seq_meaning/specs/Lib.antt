@@ -3,3 +3,4 @@ pub mod MainCode
 pub mod MainRuns
 pub mod MainValues
 pub mod Runs
+pub mod SeqStores

@@ -4,4 +4,9 @@
 mod cases;
 pub mod laws;
 mod main_run;
+mod seq_store;
+mod store_cases;
+pub mod store_laws;
 mod values;
+
+pub use seq_store::{FieldRange, SeqStore};

@@ -9,6 +9,9 @@ pub mod ElementKindLemmas
 pub mod FitClauseLemmas
 pub mod FitExpressionLemmas
 pub mod FitStatementLemmas
+pub mod GatherLemmas
+pub mod InferLemmas
+pub mod SetLemmas
 pub mod SoundnessLemmas
 pub mod StencilLemmas
 pub mod VisitLemmas

@@ -1,11 +1,11 @@
 -- Accesses with one mode at each field have one ordered list.
-use Rattle.std.proofs.Common.{◌≡◌, ◌⊎◌, ℕ, suc, true, false, List, [], ◌∷◌, refl, sym, ap, subst, ◌∙◌, inl, inr, arith}
+use Rattle.std.proofs.Common.{◌≡◌, ◌⊎◌, ℕ, suc, true, false, List, [], ◌∷◌, refl, sym, ap, subst, ◌∙◌, inl, inr, length, ◌≤◌, arith}
 use Rattle.std.proofs.lemmas.Bool.{cases_Bool}
 use Rattle.std.proofs.lemmas.Bool.Decides.{nat_tests}
 use Rattle.std.proofs.lemmas.List.Elements.{recursion_from_All, All-from_recursion}
 use Rattle.std.proofs.lemmas.List.Kept.{AllPairs-cons}
 use Rattle.std.specs.Prelude.{Option, Some}
-use Rattle.std.specs.List.{AllPairs, AllByRecursion}
+use Rattle.std.specs.List.{AllPairs, AllByRecursion, Contains}
 use Rattle.liszt_base.specs.MeshLists.{MeshLists}
 use Rattle.liszt_base.specs.declared.accesses.Access.{Access}
 use Rattle.liszt_base.specs.declared.accesses.Mode.{Mode}
@@ -34,11 +34,11 @@ transitive a b c h g = grind (arith, h, g)
 irreflexive : (a b : Access) → Precedes a b → Precedes b a → ⊥
 irreflexive a b h g = grind (arith, h, g)
 
-abbrev IsAscending : List Access → Type 0
+abbrev pub IsAscending : List Access → Type 0
 IsAscending [] = Unit {0}
 IsAscending (a ∷ rest) = AllByRecursion (Precedes a) rest × IsAscending rest
 
-all_above : (a x : Access) → Precedes a x → (xs : List Access) → AllByRecursion (Precedes x) xs → AllByRecursion (Precedes a) xs
+pub all_above : (a x : Access) → Precedes a x → (xs : List Access) → AllByRecursion (Precedes x) xs → AllByRecursion (Precedes a) xs
 all_above a x h [] all = tt
 all_above a x h (y ∷ xs) all = (transitive a x y h all.0, all_above a x h xs all.1)
 
@@ -142,11 +142,11 @@ module _ (mode : ℕ → Option Mode) where
   all_these (x ∷ xs) h a (inr m) = remains x a (stencil_of xs) (all_these xs (λ a m. h a (inr m)) a m)
 
 -- an ordered list, by its indices
-pairs_of : (xs : List Access) → IsAscending xs → AllPairs Precedes xs
+pub pairs_of : (xs : List Access) → IsAscending xs → AllPairs Precedes xs
 pairs_of [] h = λ i j d less within. absurd (omega (arith, within))
 pairs_of (x ∷ xs) h = AllPairs-cons Precedes x xs (All-from_recursion (Precedes x) xs h.0) (pairs_of xs h.1)
 
-ascending_of : (xs : List Access) → AllPairs Precedes xs → IsAscending xs
+pub ascending_of : (xs : List Access) → AllPairs Precedes xs → IsAscending xs
 ascending_of [] h = tt
 ascending_of (x ∷ xs) h = (
   recursion_from_All (Precedes x) xs (λ k d within. h 0 (suc k) d (omega arith) (omega (arith, within))),
@@ -162,6 +162,9 @@ has_stencil mesh c id fits =
       has_all = λ a h. contained_member (stencil_of xs) a (all_these mode xs (access_in_mode mesh c id fits) a (member_contained xs a h));
       has_no_other = λ a h. contained_member xs a (only_these mode xs a (member_contained (stencil_of xs) a h));
     }
+
+same_mode : (m n : Mode) → Some m ≡ Some n → m ≡ n
+same_mode m n e = cc
 
 -- TWO ORDERED LISTS with the same members are equal
 at_or_above : (x a : Access) (xs : List Access) → AllByRecursion (Precedes x) xs → Member a (x ∷ xs) → (x ≡ a) ⊎ Precedes x a
@@ -199,8 +202,44 @@ one_list (x ∷ xs) (y ∷ ys) h g f e =
     let rest : ys ≡ xs = one_list xs ys h.1 g.1 (λ a m. rest_member x y a xs ys is h.0 m (f a (inr m))) (λ a m. rest_member y x a ys xs (sym is) g.0 m (e a (inr m))) in
     ap (λ a. a ∷ ys) is ∙ ap (λ rest. x ∷ rest) rest
 
+-- A LIST of some of the members of an ordered list is no longer.
+not_first : (y a : Access) (ys : List Access) → Precedes y a → Member a (y ∷ ys) → Member a ys
+not_first y a ys h (inl is) = let itself : Precedes a a = subst (λ y. Precedes y a) is h in absurd (irreflexive a a itself itself)
+not_first y a ys h (inr m) = m
+
+pub no_longer : (xs ys : List Access) → IsAscending xs → IsAscending ys → ((a : Access) → Member a xs → Member a ys) → length xs ≤ length ys
+no_longer [] ys h g f = omega arith
+no_longer (x ∷ xs) [] h g f = absurd (f x (inl refl))
+no_longer (x ∷ xs) (y ∷ ys) h g f = elim (f x (inl refl)) [
+  | inl is ↦ (let rest : length xs ≤ length ys = no_longer xs ys h.1 g.1 (λ a m. rest_member x y a xs ys is h.0 m (f a (inr m))) in omega (arith, rest))
+  | inr later ↦
+      let less : Precedes y x = member_above y x ys g.0 later in
+      let rest : length (x ∷ xs) ≤ length ys = no_longer (x ∷ xs) ys h g.1 (λ a m. not_first y a ys (above_all y x a xs less h.0 m) (f a m)) in omega (arith, rest)
+] where
+  above_all : (y x a : Access) (xs : List Access) → Precedes y x → AllByRecursion (Precedes x) xs → Member a (x ∷ xs) → Precedes y a
+  above_all y x a xs less h (inl is) = subst (Precedes y) is less
+  above_all y x a xs less h (inr m) = transitive y x a less (member_above x a xs h m)
+
 pub same_stencil : (mesh : MeshLists) (c : Comprehension) (id : ℕ) (stencil other : List Access) → IsStencil mesh c id stencil → IsStencil mesh c id other → other ≡ stencil
 same_stencil mesh c id stencil other h g =
     one_list stencil other (ascending_of stencil h.ascending) (ascending_of other g.ascending)
     (λ a m. member_contained other a (g.has_all a (h.has_no_other a (contained_member stencil a m))))
     (λ a m. member_contained stencil a (h.has_all a (g.has_no_other a (contained_member other a m))))
+
+pub one_mode_at : (mesh : MeshLists) (c : Comprehension) (id : ℕ) → ComprehensionFits c → (a b : Access) → Contains (iteration_accesses mesh c id) a
+    → Contains (iteration_accesses mesh c id) b → a.spot ≡ b.spot → b ≡ a
+one_mode_at mesh c id fits a b m n e =
+    let xs : List Access = iteration_accesses mesh c id in
+    let modes : a.mode ≡ b.mode =
+    same_mode a.mode b.mode
+    (sym (access_in_mode mesh c id fits a (member_contained xs a m)) ∙ ap (λ spot. mode_in c (OfField spot.field)) e
+    ∙ access_in_mode mesh c id fits b (member_contained xs b n)) in
+    let equal : a ≡ b = ap (λ spot. record { spot = spot; mode = a.mode }) e ∙ ap (λ m. record { spot = b.spot; mode = m }) modes in sym equal
+
+pub no_more_accesses : (mesh : MeshLists) (c : Comprehension) (id : ℕ) (some : List Access) → ComprehensionFits c → AllPairs Precedes some
+    → ((a : Access) → Contains some a → Contains (iteration_accesses mesh c id) a) → length some ≤ length (stencil_of (iteration_accesses mesh c id))
+no_more_accesses mesh c id some fits up h =
+    let whole = has_stencil mesh c id fits in
+    let stencil : List Access = stencil_of (iteration_accesses mesh c id) in
+    no_longer some stencil (ascending_of some up) (ascending_of stencil whole.ascending)
+    (λ a m. member_contained stencil a (whole.has_all a (h a (contained_member some a m))))

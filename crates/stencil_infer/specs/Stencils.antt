@@ -1,12 +1,16 @@
 -- The stencil of an iteration: which spots it may access, whatever numbers it reads. Inferred stencils are the Liszt paper's (DeVito et
 -- al., Supercomputing 2011); what they contain is this project's own.
-use Rattle.std.specs.Prelude.{◌≡◌, ◌<◌, ◌⊎◌, ℕ, ◌+◌, ◌==◌, ◌&&◌, ◌||◌, nat_lt, Bool, if◌then◌else◌, Option, Some, None, List, [], ◌∷◌, ◌++◌}
+use Rattle.std.specs.Prelude.{◌≡◌, ◌<◌, ◌⊎◌, ℕ, ◌+◌, ◌==◌, ◌&&◌, ◌||◌, nat_lt, Bool, if◌then◌else◌, Option, Some, None, List, [], ◌∷◌, ◌++◌, length, slice_get, map, Result, Ok, Err}
 use Rattle.std.specs.List.{AllPairs, Contains, flat_map, sum_by}
+use Rattle.liszt_base.specs.Limits.{visit_limit, entry_limit}
 use Rattle.liszt_base.specs.MeshLists.{MeshLists}
 use Rattle.liszt_base.specs.declared.accesses.Access.{Access}
 use Rattle.liszt_base.specs.declared.accesses.Mode.{Mode}
 use Rattle.liszt_base.specs.declared.accesses.Mode.TheVariants.{Read}
 use Rattle.liszt_base.specs.declared.accesses.Spot.{Spot}
+use Rattle.liszt_base.specs.declared.answers.LimitFault.{LimitFault}
+use Rattle.liszt_base.specs.declared.answers.LimitWhat.{LimitWhat}
+use Rattle.liszt_base.specs.declared.answers.LimitWhat.TheVariants.{Visits, Entries}
 use Rattle.liszt_base.specs.declared.elements.Elem.{Elem}
 use Rattle.liszt_tree.specs.Tree.{Expression, Field, Call, Towards, Neg, Not, Chain, Compare, Links, no_links, link}
 use Rattle.liszt_tree.specs.Tree.{Statement, Var, Val, Assign, If, While, For, Body, no_statement, statement}
@@ -148,3 +152,29 @@ iteration_visits mesh c id = body_visits mesh (bindings_at_start c id) c.body
 -- the visits of all iterations
 abbrev pub visits : MeshLists → Comprehension → ℕ
 visits mesh c = sum_by (iteration_visits mesh c) (numbers 0 (count mesh c.over))
+
+-- THE INFERENCE of a comprehension gives the stencil of each iteration, by ascending id, and the visits; or the first limit that is
+-- passed, that of the visits or that of the accesses in all stencils.
+abbrev pub stencils : MeshLists → Comprehension → List (List Access)
+stencils mesh c = map (λ id. stencil_of (iteration_accesses mesh c id)) (numbers 0 (count mesh c.over))
+
+abbrev pub entries : List (List Access) → ℕ
+entries lists = sum_by (λ list. length list) lists
+
+pub record StencilLists : Type 0 where
+  pub lists : List (List Access)
+  pub visits : ℕ
+
+abbrev pub past_limit : LimitWhat → ℕ → LimitFault
+past_limit what limit = record { what = what; allowed = limit; found = limit + 1 }
+
+abbrev pub inference : MeshLists → Comprehension → ℕ → Result StencilLists LimitFault
+inference mesh c k =
+    if nat_lt visit_limit (visits mesh c) then Err (past_limit (Visits k) visit_limit)
+    else if nat_lt entry_limit (entries (stencils mesh c)) then Err (past_limit (Entries k) entry_limit)
+    else Ok (record { lists = stencils mesh c; visits = visits mesh c })
+
+-- THE STENCILS of a comprehension, one for each iteration
+pub record AreStencils (mesh : MeshLists) (c : Comprehension) (lists : List (List Access)) : Type 0 where
+  pub one_each : length lists ≡ count mesh c.over
+  pub each : (id : ℕ) (stencil : List Access) → slice_get lists id ≡ Some stencil → IsStencil mesh c id stencil

@@ -1,5 +1,4 @@
 //! The visits of statements, counted up to a cap.
-#![allow(dead_code)]
 
 ghost use Rattle.std.specs.Prelude.{◌≡◌, ◌≤◌, ◌<◌, ◌+◌, ◌^◌, ◌-◌, Some, length, min, slice_get, true};
 ghost use Rattle.std.specs.List.{AllByRecursion};
@@ -24,7 +23,7 @@ fn add(visits: u64, more: u64, cap: u64) -> u64
 
 /// Counts the visits of statements, from those so far, and leaves the slots as after them unless the cap is reached.
 #[cycle(count)]
-fn count_body(
+pub fn count_body(
     m: &Mesh,
     kinds: &[Kind],
     slots: &mut [Option<Elem>],

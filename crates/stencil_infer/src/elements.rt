@@ -11,7 +11,6 @@ use resolved_code::{ElementCode, ElementFun};
 use topo_operators::{flip, head, inside, outside, tail, towards};
 
 /// The element, or nil, that an expression gives. Each slot has an element of its kind, and each operator an operand of its kind.
-#[allow(dead_code)]
 pub fn element(m: &Mesh, kinds: &[Kind], slots: &[Option<Elem>], code: &ElementCode) -> Option<Elem>
     requires slots { SlotsFit m.now kinds.now slots.now }
     requires kind { is_some (kind_of kinds.now code.now) ≡ true }

@@ -1,5 +1,4 @@
 //! Visits of resolved expressions, counted up to the greatest number of 64 bits.
-#![allow(dead_code)]
 
 ghost use Rattle.std.specs.Prelude.{◌≡◌, ◌^◌, ◌-◌, map, min};
 ghost use Rattle.stencil_infer.specs.Internal.CodeAccesses as Code;

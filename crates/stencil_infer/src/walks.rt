@@ -1,4 +1,4 @@
-//! The walk through resolved code. So far that it has the accesses and the visits of the tree.
+//! The walk through resolved code has the accesses and the visits of the tree. Each function does nothing; its contract is the law.
 #![allow(dead_code)]
 
 ghost use Rattle.std.specs.Prelude.{◌≡◌, ℕ, Ok, Some, length, slice_get, true};

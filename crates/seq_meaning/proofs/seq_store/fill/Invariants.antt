@@ -1,0 +1,7 @@
+use Rattle.std.proofs.Common.{◌≡◌, length}
+use Rattle.seq_meaning.specs.SeqStores.{filled}
+use Rattle.seq_meaning.proofs.seq_store.fill.Given as goal
+
+abbrev pub invariant-loop-offset : goal.invariant-loop-offset
+invariant-loop-offset l =
+    (l.words ≡ filled l.range.first l.offset l.value l.fn.words) × (length l.words ≡ length l.fn.words)
