@@ -1,5 +1,6 @@
 pub mod IterationLemmas
 pub mod ItemCodeLemmas
+pub mod MainAdvanceLemmas
 pub mod MainBlockLemmas
 pub mod MainCodeLemmas
 pub mod MainHereLemmas

@@ -25,7 +25,7 @@ use Rattle.seq_meaning.specs.Runs.{Progress, main_meaning, number_at}
 use Rattle.seq_meaning.proofs.MainStepLemmas.{set_here, set_there, length_set, drop_at, descends_below, number_changes_nothing, IsEvaluated, evaluated}
 use Rattle.seq_meaning.proofs.TypedRunLemmas.{more_of}
 
-stands_below : {w : World} {frames : List Frame} {depth level : ℕ} {outside known : List ℕ} {items : List ItemCode} {remaining : Computation Progress Done}
+pub stands_below : {w : World} {frames : List Frame} {depth level : ℕ} {outside known : List ℕ} {items : List ItemCode} {remaining : Computation Progress Done}
     → Stands w frames depth level outside items known remaining → level < depth
 stands_below (AtItem frame site rest new at is code known_is descends) = omega (arith, is)
 stands_below (InBlock frame inner site rest before new at is stands known_is descends code) = let l = stands_below stands in omega (arith, l)

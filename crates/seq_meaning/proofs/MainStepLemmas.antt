@@ -1,5 +1,5 @@
 -- Lists, scalars and evaluations in the steps of a run of the main program.
-use Rattle.std.proofs.Common.{◌≡◌, ◌≢◌, ◌<◌, ◌≤◌, ◌⊎◌, ℕ, zero, suc, ◌+◌, ◌-◌, ◌==◌, Bool, true, false, List, [], ◌∷◌, ◌++◌, length, map, take, drop, refl, sym, ap, subst, ◌∙◌, inl, inr, arith, eqb-true, eq-eqb, ne_eqb, cond}
+use Rattle.std.proofs.Common.{◌≡◌, ◌≢◌, ◌<◌, ◌≤◌, ◌⊎◌, ℕ, zero, suc, ◌+◌, ◌-◌, ◌==◌, Bool, true, false, List, [], ◌∷◌, ◌++◌, length, map, take, drop, get_or, refl, sym, ap, subst, ◌∙◌, inl, inr, arith, eqb-true, eq-eqb, ne_eqb, cond}
 use Rattle.std.proofs.lemmas.Bool.{cases_Bool}
 use Rattle.std.proofs.lemmas.Option.{slice_get_within}
 use Rattle.std.specs.List.{slice_set}
@@ -199,3 +199,14 @@ holds_assigned scalars s number value old is h = record { holds = λ other v e. 
     where
       true_or_false : true ≡ false → ⊥
       true_or_false e = absurd cc
+
+-- items of lists by both ways of reading them
+pub item_got : {A : Type 0} (xs : List A) (i : ℕ) (x : A) → i < length xs → x ≡ get_or xs i x → slice_get xs i ≡ Some x
+item_got [] i x l e = absurd (omega (arith, l))
+item_got (y ∷ xs) zero x l e = ap Some (sym e)
+item_got (y ∷ xs) (suc i) x l e = item_got xs i x (omega (arith, l)) e
+
+pub got_item : {A : Type 0} (xs : List A) (i : ℕ) (x other : A) → slice_get xs i ≡ Some x → get_or xs i other ≡ x
+got_item [] i x other e = absurd cc
+got_item (y ∷ xs) zero x other e = cc
+got_item (y ∷ xs) (suc i) x other e = got_item xs i x other e

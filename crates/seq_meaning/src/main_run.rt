@@ -1,6 +1,6 @@
 //! The main program, an event at a time.
 
-ghost use Rattle.std.specs.Prelude.{◌≡◌, ◌≢◌, ◌+◌, ◌<◌, ◌≤◌, ℕ, Err, IfOk, List, Ok, OnOk, None, Some, false, length, slice_get, slice_set, suc, ◌^◌};
+ghost use Rattle.std.specs.Prelude.{◌≡◌, ◌≢◌, ◌+◌, ◌<◌, ◌≤◌, ℕ, Err, IfOk, IfSome, List, Ok, OnOk, None, Some, false, length, slice_get, slice_set, suc, ◌^◌};
 ghost use Rattle.std.specs.Option.{option_map};
 ghost use Rattle.liszt_base.specs.Limits.{print_limit};
 ghost use Rattle.code_eval.specs.Stops.{NoMeaning};
@@ -114,8 +114,9 @@ fn next_of(frame: Frame, count: usize) -> Frame
 
 /// The block of an item that can be open, and whether the item is met again after it.
 fn inner_block(item: &ItemCode, after_else: bool) -> Option<(&BlockCode, bool)>
-    ensures { option_map (λ inner. record { block = inner.0.now; is_repeated = inner.1 }) result
-        ≡ block_in (out-ItemCode item.now) after_else }
+    ensures block { option_map (λ inner. record { block = inner.0.now; is_repeated = inner.1 })
+        result ≡ block_in (out-ItemCode item.now) after_else }
+    ensures deeper { IfSome result (λ inner. deepest inner.0.now.items < nested item.now) }
 {
     match item {
         ItemCode::If { first, second, .. } => {
@@ -138,8 +139,9 @@ fn inner_block(item: &ItemCode, after_else: bool) -> Option<(&BlockCode, bool)>
 
 /// The block that is open in the item of a frame, and whether the item is met again after it.
 fn block_of(items: &[ItemCode], frame: Frame) -> Option<(&BlockCode, bool)>
-    ensures { option_map (λ inner. record { block = inner.0.now; is_repeated = inner.1 }) result
-        ≡ block_at items.now frame }
+    ensures block { option_map (λ inner. record { block = inner.0.now; is_repeated = inner.1 })
+        result ≡ block_at items.now frame }
+    ensures deeper { IfSome result (λ inner. deepest inner.0.now.items < deepest items.now) }
 {
     inner_block(items.get(frame.index)?, frame.after_else)
 }
