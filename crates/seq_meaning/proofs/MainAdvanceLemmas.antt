@@ -101,3 +101,121 @@ module _ {w : World} {r : MainRun} {level : ℕ} {outside : List ℕ} {items : L
     has_meaning = λ none. s.has_meaning (ap (λ remaining. (remaining p).answer) inside_here.is
         ∙ ap (λ answer. (after_outcome w inside_here.before inside_here.inner.block.scope inside_here.site inside_here.rest (record { after = (inside_here.block p).after; answer = answer })).answer) none);
   }
+
+  -- the block goes on, and the block around it with it
+  module _ (after : MainRun) (keeps : KeepsBelow (suc level) r after) where
+    abbrev around : Computation Progress Done → Computation Progress Done
+    around rest = block_and_rest w inside_here.before inside_here.inner.block.scope rest inside_here.site inside_here.rest
+
+    remaining_is : (outcome : Outcome Progress Done) → inside_here.block p ≡ outcome → remaining p ≡ after_outcome w inside_here.before inside_here.inner.block.scope inside_here.site inside_here.rest outcome
+    remaining_is outcome e = ap (λ remaining. remaining p) inside_here.is ∙ ap (after_outcome w inside_here.before inside_here.inner.block.scope inside_here.site inside_here.rest) e
+
+    around_stands : (known : List ℕ) (rest : Computation Progress Done) → Stands w after.frames after.depth (suc level) (known_scalars inside_here.before) inner.block.items known rest
+        → Stands w after.frames after.depth level outside items known (around rest)
+    around_stands known rest stands =
+        InBlock inside_here.frame inside_here.inner inside_here.site inside_here.rest inside_here.before inside_here.new
+        (keeps.frames level (omega arith) ∙ inside_here.at) inside_here.found
+        (subst (λ (inner : InnerBlock). Stands w after.frames after.depth (suc level) (known_scalars inside_here.before) inner.block.items known rest) (sym same_inner) stands)
+        inside_here.known_is inside_here.descends inside_here.code
+
+    goes_around : (event : Event) (Changes : Fields → Fields → Type 0) → GoesOn w event Changes (suc level) (known_scalars inside_here.before) inner.block.items p inside_here.block after
+        → GoesOn w event Changes level outside items p remaining after
+    goes_around event Changes g = record {
+      later = g.later;
+      rest = around g.rest;
+      is = remaining_is (g.rest (logged event g.later)) g.is;
+      path = g.path;
+      fields = g.fields;
+      stands = record {
+        stands = around_stands (known_scalars g.later.state) g.rest g.stands.stands;
+        has_state = g.stands.has_state;
+        room = omega (arith, s.room, keeps.count);
+        has_meaning = λ none. s.has_meaning (ap (λ outcome. outcome.answer) (remaining_is (g.rest (logged event g.later)) g.is) ∙ none);
+      };
+    }
+
+    pub advances_around : (step : MainStep) → HasAdvanced w (suc level) (known_scalars inside_here.before) inner.block.items p inside_here.block (Some step) after
+        → HasAdvanced w level outside items p remaining (Some step) after
+    advances_around (Enter scope) g = goes_around (ScopeOpened scope) AreSame g
+    advances_around (Leave scope) g = goes_around (ScopeClosed scope) AreFewer g
+    advances_around (Declare field value) g = goes_around (FieldDeclared field value) (HaveOneMore w field value) g
+    advances_around (Comp k) g = record {
+      later = g.later;
+      rest = around g.rest;
+      c = g.c;
+      found = g.found;
+      is = ap (λ remaining. remaining p) inside_here.is ∙ ap (after_outcome w inside_here.before inside_here.inner.block.scope inside_here.site inside_here.rest) g.is
+          ∙ comprehension_then w inside_here.before inside_here.inner.block.scope inside_here.site inside_here.rest (lift_state (all_or_nothing (comprehension w.mesh g.c w.turns))) g.rest (logged (ComprehensionReached k) g.later);
+      path = g.path;
+      fields = g.fields;
+      stands = around_stands (known_scalars g.later.state) g.rest g.stands;
+      has_state = g.has_state;
+      room = omega (arith, s.room, keeps.count);
+    }
+    advances_around (Over (EndTrap trap)) g = record { later = g.later; is = remaining_is (halt (Trapped trap) g.later) g.is; path = g.path; prints = g.prints }
+    advances_around (Over EndDone) g = g
+
+    -- the block ends
+    pub leaves : Ends w (known_scalars inside_here.before) p inside_here.block after
+        → GoesOn w (ScopeClosed inner.block.scope) AreFewer level outside items p remaining (record after { depth = suc level; frames = frames_left after.frames level frame inner.is_repeated })
+    leaves g = record {
+      later = later;
+      rest = main_meaning w.mesh w.turns inside_here.site inside_here.rest;
+      is = is;
+      path = g.path;
+      fields = record { ended = length g.later.state.fields - length inside_here.before.fields; are = ap (drop (length g.later.state.fields - length inside_here.before.fields)) g.fields };
+      stands = record {
+        stands = stands_after inner.is_repeated refl;
+        has_state = record {
+          scalars = record { holds = λ number value e. g.has_state.scalars.holds number value (value_in_rest g.bound (length g.later.state.scalars - length inside_here.before.scalars) g.later.state.scalars number value g.descends e) };
+          prints = g.has_state.prints;
+          turns = g.has_state.turns;
+          each_scalar = g.has_state.each_scalar;
+          each_print = g.has_state.each_print;
+          printed = g.has_state.printed;
+        };
+        room = room_after inner.is_repeated;
+        has_meaning = λ none. s.has_meaning (ap (λ outcome. outcome.answer) is ∙ none);
+      };
+    } where
+      later : Progress
+      later = record g.later { state = after_scope inside_here.before g.later.state }
+
+      is : remaining p ≡ main_meaning w.mesh w.turns inside_here.site inside_here.rest (logged (ScopeClosed inner.block.scope) later)
+      is = remaining_is (pure (tt {0}) g.later) g.is
+          ∙ ap (λ (inner : InnerBlock). main_meaning w.mesh w.turns inside_here.site inside_here.rest (logged (ScopeClosed inner.block.scope) (record g.later { state = after_scope inside_here.before g.later.state }))) same_inner
+
+      count_is : length g.later.state.scalars - length inside_here.before.scalars ≡ length g.new
+      count_is =
+          let a : length (known_scalars g.later.state) ≡ length g.later.state.scalars = length-map g.later.state.scalars (λ scalar. scalar.0) in
+          let b : length (known_scalars inside_here.before) ≡ length inside_here.before.scalars = length-map inside_here.before.scalars (λ scalar. scalar.0) in
+          let c : length (known_scalars g.later.state) ≡ length g.new + length (known_scalars inside_here.before) = ap (λ known. length known) g.known ∙ length-append g.new (known_scalars inside_here.before) in
+          omega (arith, a, b, c)
+
+      known_after : known_scalars (record g.later { state = after_scope inside_here.before g.later.state }).state ≡ known_scalars inside_here.before
+      known_after =
+          drop_keys (length g.later.state.scalars - length inside_here.before.scalars) g.later.state.scalars
+          ∙ ap (drop (length g.later.state.scalars - length inside_here.before.scalars)) g.known
+          ∙ drop_front g.new (known_scalars inside_here.before) (length g.later.state.scalars - length inside_here.before.scalars) count_is
+
+      frame_is : inside_here.frame ≡ frame
+      frame_is = cc (inside_here.at, at)
+
+      level_is : level < length after.frames
+      level_is = omega (arith, slice_get_within r.frames level frame at, keeps.count)
+
+      code_at : (repeated : Bool) → inner.is_repeated ≡ repeated → IsCode w.parts inside_here.site inside_here.rest (drop (index_after frame (record { block = inner.block; is_repeated = repeated })) items)
+      code_at repeated same = subst (λ repeated. IsCode w.parts inside_here.site inside_here.rest (drop (index_after frame (record { block = inner.block; is_repeated = repeated })) items)) same
+          (subst (λ (inner : InnerBlock). IsCode w.parts inside_here.site inside_here.rest (drop (index_after frame inner) items)) same_inner
+          (subst (λ frame. IsCode w.parts inside_here.site inside_here.rest (drop (index_after frame inside_here.inner) items)) frame_is inside_here.code))
+
+      stands_after : (repeated : Bool) → inner.is_repeated ≡ repeated
+          → Stands w (frames_left after.frames level frame repeated) (suc level) level outside items (known_scalars (record g.later { state = after_scope inside_here.before g.later.state }).state) (main_meaning w.mesh w.turns inside_here.site inside_here.rest)
+      stands_after true same = AtItem frame inside_here.site inside_here.rest inside_here.new (keeps.frames level (omega arith) ∙ at) refl (code_at true same) (known_after ∙ inside_here.known_is)
+          (subst (Descends (next_scalar inside_here.site)) (sym known_after) inside_here.descends)
+      stands_after false same = AtItem (next_frame frame) inside_here.site inside_here.rest inside_here.new (set_here after.frames level (next_frame frame) level_is) refl (code_at false same) (known_after ∙ inside_here.known_is)
+          (subst (Descends (next_scalar inside_here.site)) (sym known_after) inside_here.descends)
+
+      room_after : (repeated : Bool) → level + deepest items < length (frames_left after.frames level frame repeated)
+      room_after true = omega (arith, s.room, keeps.count)
+      room_after false = omega (arith, s.room, keeps.count, length_set after.frames level (next_frame frame))

@@ -2,7 +2,7 @@
 use Rattle.std.proofs.Common.{◌≡◌, ◌≤◌, ◌<◌, ℕ, zero, suc, ◌+◌, ◌-◌, List, [], ◌∷◌, ◌++◌, map, take, length, get_or, rules, refl, sym, ap, subst, ◌∙◌, arith}
 use Rattle.std.proofs.Math.Nat.{le-max_left, le-max_right, max-le}
 use Rattle.std.specs.Option.{option_map}
-use Rattle.std.specs.Prelude.{max, Option, Some, None, slice_get}
+use Rattle.std.specs.Prelude.{IfSome, max, Option, Some, None, slice_get}
 use Rattle.liszt_base.specs.declared.answers.Place.{Place}
 use Rattle.resolved_code.specs.declared.expressions.TruthCode.{TruthCode}
 use Rattle.resolved_code.specs.declared.items.BlockCode.{BlockCode}
@@ -45,3 +45,7 @@ room_for_both a b level old new l m k =
 
 pub room_for_one : (a level new : ℕ) → level + a < new → level + max (1 + a) 0 ≤ new
 room_for_one a level new l = let both : max (1 + a) 0 ≤ new - level = max-le (omega (arith, l)) (omega arith) in omega (arith, both, l)
+
+pub some_below : {A : Type 0} (o : Option A) (f : A → ℕ) (n m : ℕ) → IfSome o (λ a. f a < n) → n ≤ m → IfSome o (λ a. f a < m)
+some_below (Some a) f n m h l = omega (arith, h, l)
+some_below None f n m h l = tt

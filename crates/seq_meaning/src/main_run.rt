@@ -17,7 +17,7 @@ use liszt_base::{NoMemory, PRINT_LIMIT, Place, RunEnd, Trap, TrapKind};
 use liszt_tree::How;
 use phase_types::Checked;
 use resolved_code::{BlockCode, ItemCode, NumberCode, TruthCode};
-use sqlite_items::Items;
+use sqlite_items::{Items, at};
 use std::alloc::Global;
 
 /// A block that is open: the index of its item, and whether the block in that item which is open is the one after `else`.
@@ -143,7 +143,7 @@ fn block_of(items: &[ItemCode], frame: Frame) -> Option<(&BlockCode, bool)>
         result ≡ block_at items.now frame }
     ensures deeper { IfSome result (λ inner. deepest inner.0.now.items < deepest items.now) }
 {
-    inner_block(items.get(frame.index)?, frame.after_else)
+    inner_block(at(items, frame.index)?, frame.after_else)
 }
 
 impl MainRun {
