@@ -3,21 +3,22 @@ use Rattle.std.proofs.Common.{◌≡◌, ◌≢◌, ◌<◌, ◌≤◌, ℕ, suc
 use Rattle.std.proofs.lemmas.List.{length-append, length-map}
 use Rattle.std.proofs.lemmas.Option.{slice_get_within}
 use Rattle.std.specs.List.{slice_set}
+use Rattle.std.specs.Option.{option_and_then}
 use Rattle.std.specs.Prelude.{Option, Some, None, slice_get, ℤ, Result, Ok, Err}
 use Rattle.liszt_base.specs.declared.answers.RunEnd.TheVariants.{Trap as EndTrap, Done as EndDone}
 use Rattle.liszt_base.specs.declared.answers.Trap.{Trap}
 use Rattle.liszt_tree.specs.Tree.{Main}
-use Rattle.resolved_code.specs.declared.items.ItemCode.{ItemCode}
+use Rattle.resolved_code.specs.declared.items.ItemCode.{ItemCode, out-ItemCode}
 use Rattle.phase_types.specs.Environments.{Site, next_scalar}
 use Rattle.kernel_eval.specs.Outcomes.{Stop, Trapped, NoMeaning, Outcome, Computation, Done, pure, halt, continue_with, ◌>>◌}
 use Rattle.kernel_eval.specs.States.{Fields, State, known_scalars, scalar_value}
 use Rattle.seq_meaning.specs.MainCode.{HoldScalars, IsCode}
-use Rattle.seq_meaning.specs.MainRuns.{Frame, MainRun, InnerBlock, block_at, index_after, block_and_rest, deepest, frames_left, World, Descends, Stands, AtItem, InBlock, HasState, StandsAt, KeepsBelow, GoesOn, Reaches, Traps, Ends, HasAdvanced, AreSame, AreFewer, HaveOneMore, next_frame, logged}
+use Rattle.seq_meaning.specs.MainRuns.{Frame, MainRun, InnerBlock, block_at, index_after, block_and_rest, deepest, frames_left, World, Descends, Stands, AtItem, InBlock, HasState, StandsAt, KeepsBelow, GoesOn, Reaches, Traps, Ends, HasAdvanced, AreSame, AreFewer, HaveOneMore, CanAdvance, block_in, next_frame, logged}
 use Rattle.seq_meaning.specs.Runs.{Event, ScopeOpened, ScopeClosed, FieldDeclared, ComprehensionReached, Progress, log_event, lift_state, modify_state, after_scope, all_or_nothing, comprehension, main_meaning}
 use Rattle.seq_meaning.specs.declared.main_run.MainStep.{MainStep}
 use Rattle.seq_meaning.specs.declared.main_run.MainStep.TheVariants.{Enter, Leave, Declare, Comp, Over}
 use Rattle.seq_meaning.proofs.MainHereLemmas.{stands_below}
-use Rattle.seq_meaning.proofs.MainStepLemmas.{set_here, length_set, drop_keys, drop_front, value_in_rest, descends_in}
+use Rattle.seq_meaning.proofs.MainStepLemmas.{set_here, set_there, length_set, drop_keys, drop_front, value_in_rest, descends_in}
 
 -- THE BLOCK THAT IS OPEN at a level
 pub record Inside (w : World) (frames : List Frame) (depth level : ℕ) (outside : List ℕ) (items : List ItemCode) (known : List ℕ) (remaining : Computation Progress Done) : Type 0 where
@@ -219,3 +220,43 @@ module _ {w : World} {r : MainRun} {level : ℕ} {outside : List ℕ} {items : L
       room_after : (repeated : Bool) → level + deepest items < length (frames_left after.frames level frame repeated)
       room_after true = omega (arith, s.room, keeps.count)
       room_after false = omega (arith, s.room, keeps.count, length_set after.frames level (next_frame frame))
+
+-- as the calls say it
+abbrev pub Advances : MainRun → ℕ → List ItemCode → Option MainStep → MainRun → Type 0
+Advances r level items result after =
+    (w : World) (outside : List ℕ) (p : Progress) (remaining : Computation Progress Done) → StandsAt w r level outside items p remaining → HasAdvanced w level outside items p remaining result after
+
+pub advances_at : (r after : MainRun) (level next : ℕ) (items slice : List ItemCode) (result : Option MainStep) → next ≡ suc level → slice ≡ items → Advances r next slice result after
+    → Advances r (suc level) items result after
+advances_at r after level next items slice result same_level same_items h =
+    subst (λ items. Advances r (suc level) items result after) same_items (subst (λ level. Advances r level slice result after) same_level h)
+
+pub keeps_at : (r after : MainRun) (level next : ℕ) → next ≡ suc level → KeepsBelow next r after → KeepsBelow (suc level) r after
+keeps_at r after level next same h = subst (λ level. KeepsBelow level r after) same h
+
+pub can_at : (r : MainRun) (level next : ℕ) (items slice : List ItemCode) → next ≡ suc level → slice ≡ items → CanAdvance r (suc level) items → CanAdvance r next slice
+can_at r level next items slice same_level same_items h =
+    subst (λ level. CanAdvance r level slice) (sym same_level) (subst (λ items. CanAdvance r (suc level) items) (sym same_items) h)
+
+pub can_inside : {r : MainRun} {level : ℕ} {items : List ItemCode} (can : CanAdvance r level items) → suc level < r.depth → (frame : Frame) → slice_get r.frames level ≡ Some frame
+    → (inner : InnerBlock) → block_at items frame ≡ Some inner → deepest inner.block.items < deepest items → CanAdvance r (suc level) inner.block.items
+can_inside can deep frame at inner found deeper = record {
+  w = can.w;
+  outside = known_scalars (inside_here can.stands deep frame at inner found deeper).before;
+  p = can.p;
+  remaining = (inside_here can.stands deep frame at inner found deeper).block;
+  stands = stands_inside can.stands deep frame at inner found deeper;
+}
+
+pub block_within : (items : List ItemCode) (frame : Frame) (inner : InnerBlock) → block_at items frame ≡ Some inner → frame.index < length items
+block_within items frame inner found = go (slice_get items frame.index) refl found where
+  go : (o : Option ItemCode) → slice_get items frame.index ≡ o → option_and_then (λ c. block_in (out-ItemCode c) frame.after_else) o ≡ Some inner → frame.index < length items
+  go (Some c) is found = slice_get_within items frame.index c is
+  go None is found = absurd cc
+
+pub keeps_left : (level : ℕ) (r mid : MainRun) (frame : Frame) (repeated : Bool) → KeepsBelow (suc level) r mid → KeepsBelow level r (record mid { depth = suc level; frames = frames_left mid.frames level frame repeated })
+keeps_left level r mid frame true h = record { frames = λ j l. h.frames j (omega (arith, l)); count = h.count }
+keeps_left level r mid frame false h = record {
+  frames = λ j l. set_there mid.frames level j (next_frame frame) (λ same. absurd (omega (arith, same, l))) ∙ h.frames j (omega (arith, l));
+  count = length_set mid.frames level (next_frame frame) ∙ h.count;
+}

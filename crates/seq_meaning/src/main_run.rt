@@ -419,6 +419,14 @@ impl MainRun {
         }
     }
 
+    /// The level of the innermost block.
+    fn innermost(&self) -> usize
+        requires { 0 < self.now.depth }
+        ensures { suc result ≡ self.now.depth }
+    {
+        self.depth - 1
+    }
+
     /// Goes on from where the run stands in a block at a level, up to an event or to the end of the block.
     fn advance(&mut self, items: &[ItemCode], level: usize) -> Option<MainStep>
         requires { CanAdvance self.old level items.now }
@@ -428,7 +436,7 @@ impl MainRun {
             → HasAdvanced w level outside items.now p remaining result self.new }
         ensures keeps { KeepsBelow level self.old self.new }
     {
-        if level + 1 >= self.depth {
+        if level >= self.innermost() {
             return self.run_items(items, level);
         }
         let frame = self.frame(level);
