@@ -14,12 +14,13 @@ use Rattle.resolved_code.specs.declared.items.BlockCode.{BlockCode}
 use Rattle.resolved_code.specs.declared.items.ItemCode.{ItemCode, fold-ItemCode, out-ItemCode}
 use Rattle.resolved_code.specs.declared.items.ItemCode.TheOpen.{ItemCode-F, BlockCode-F}
 use Rattle.phase_types.specs.declared.info.FieldInfo.{FieldInfo}
-use Rattle.phase_types.specs.Environments.{Comprehension, Part, Site, fields_in, scalars_in, comprehensions_in, first_declared, next_scalar}
+use Rattle.phase_types.specs.declared.state.CheckedProgram.{CheckedProgram}
+use Rattle.phase_types.specs.Environments.{parts_of, Comprehension, Part, Site, fields_in, scalars_in, comprehensions_in, first_declared, next_scalar}
 use Rattle.kernel_eval.specs.Outcomes.{NoMeaning, Trapped, Outcome, Computation, Done, pure, halt, ◌>>◌}
 use Rattle.kernel_eval.specs.States.{Fields, State, known_scalars}
 use Rattle.seq_meaning.specs.MainCode.{HoldScalars, IsCode}
 use Rattle.seq_meaning.specs.MainValues.{main_trap}
-use Rattle.seq_meaning.specs.Runs.{Event, ScopeOpened, ScopeClosed, FieldDeclared, ComprehensionReached, Progress, log_event, lift_state, modify_state, after_scope, all_or_nothing, comprehension, main_meaning}
+use Rattle.seq_meaning.specs.Runs.{Event, ScopeOpened, ScopeClosed, FieldDeclared, ComprehensionReached, Progress, log_event, lift_state, modify_state, after_scope, all_or_nothing, comprehension, main_meaning, empty, run}
 pub use Rattle.seq_meaning.specs.declared.main_run.Frame.{Frame}
 pub use Rattle.seq_meaning.specs.declared.main_run.MainRun.{MainRun}
 use Rattle.seq_meaning.specs.declared.main_run.MainStep.{MainStep}
@@ -244,3 +245,31 @@ pub record HasDone (level : ℕ) (items : List ItemCode) (next : Frame) (result 
 abbrev pub frames_left : List Frame → ℕ → Frame → Bool → List Frame
 frames_left frames level frame true = frames
 frames_left frames level frame false = slice_set frames level (next_frame frame)
+
+-- A RUN IS PREPARED for a checked program: it has a place for each scalar and each print, and a frame for each level of blocks.
+pub record IsPreparedRun (checked : CheckedProgram) (r : MainRun) : Type 0 where
+  pub scalars : length r.scalars ≡ length checked.scalars
+  pub prints : length r.prints ≡ print_limit
+  pub frames : deepest checked.items < length r.frames
+
+-- it has begun, before its first event
+pub record HasBegunRun (turns : ℕ) (r : MainRun) : Type 0 where
+  pub depth : r.depth ≡ 0
+  pub printed : r.printed ≡ 0
+  pub turns_are : r.turns ≡ turns
+
+-- IT IS AT a progress of the run of a program: what the whole run does is what remains from there.
+pub record IsAt (mesh : MeshLists) (program : Main) (turns : ℕ) (items : List ItemCode) (p : Progress) (r : MainRun) : Type 0 where
+  pub remaining : Computation Progress Done
+  pub is : run mesh program turns ≡ remaining p
+  pub stands : StandsAt (record { mesh = mesh; turns = turns; parts = parts_of program }) r 0 [] items p remaining
+
+-- its next event, or the end
+abbrev pub HasNext : World → List ItemCode → Progress → Computation Progress Done → MainStep → MainRun → Type 0
+HasNext w items p remaining (Over EndDone) after = Ends w [] p remaining after
+HasNext w items p remaining step after = HasAdvanced w 0 [] items p remaining (Some step) after
+
+-- the first event opens the outermost scope
+pub record HasOpened (mesh : MeshLists) (program : Main) (turns : ℕ) (items : List ItemCode) (step : MainStep) (after : MainRun) : Type 0 where
+  pub step_is : step ≡ Enter 0
+  pub at : IsAt mesh program turns items (logged (ScopeOpened 0) (record { state = empty turns; path = [] })) after

@@ -1,13 +1,16 @@
 //! The main program, an event at a time.
 
-ghost use Rattle.std.specs.Prelude.{◌≡◌, ◌≢◌, ◌+◌, ◌<◌, ◌≤◌, ℕ, Err, IfOk, IfSome, List, Ok, OnOk, None, Some, false, length, slice_get, slice_set, suc, ◌^◌};
+ghost use Rattle.std.specs.Prelude.{◌≡◌, ◌≢◌, ◌+◌, ◌<◌, ◌≤◌, ℕ, Err, IfOk, IfSome, List, Ok, OnOk, None, Some, false, length, slice_get, slice_set, suc, take};
 ghost use Rattle.std.specs.Option.{option_map};
 ghost use Rattle.liszt_base.specs.Limits.{print_limit};
-ghost use Rattle.code_eval.specs.Stops.{NoMeaning};
+ghost use Rattle.liszt_base.specs.MeshLists.{MeshLists};
+ghost use Rattle.liszt_tree.specs.Tree.{Main};
+ghost use Rattle.phase_types.specs.Environments.{parts_of};
+ghost use Rattle.phase_types.specs.declared.state.CheckedProgram.{CheckedProgram as Parts};
 ghost use Rattle.kernel_eval.specs.Outcomes.{Computation, Done};
 ghost use Rattle.resolved_code.specs.declared.items.ItemCode.{out-ItemCode};
 ghost use Rattle.resolved_code.specs.declared.items.ItemCode.TheVariants as Code;
-ghost use Rattle.seq_meaning.specs.MainRuns.{CanAdvance, CanDo, HasDone, HasAdvanced, HasDoneItem, HasPrinted, HasTakenTurn, KeepsBelow, StandsAt, World, block_at, block_in, deepest, frames_left, nested, next_frame};
+ghost use Rattle.seq_meaning.specs.MainRuns.{CanAdvance, CanDo, HasDone, HasAdvanced, HasDoneItem, HasBegunRun, HasNext, HasPrinted, HasTakenTurn, IsAt, IsPreparedRun, KeepsBelow, StandsAt, World, block_at, block_in, deepest, frames_left, nested, next_frame};
 ghost use Rattle.seq_meaning.specs.Runs.{Progress};
 
 use crate::values::{main_trap, number, scalar_at, truth};
@@ -460,6 +463,70 @@ impl MainRun {
         self.depth = level + 1;
         if !is_repeated {
             self.move_on(level, next_of(frame, count));
+        }
+    }
+
+    /// A run of a checked program, or out of memory.
+    pub fn prepare(alloc: Global, c: &Checked) -> Result<MainRun, NoMemory>
+        ensures { IfOk result (λ r. IsPreparedRun c.now r) }
+    {
+        let mut frames = Items::new(alloc);
+        reserve(&mut frames, c.items(), 0)?;
+        Ok(MainRun {
+            scalars: zeros(alloc, c.scalars().len())?,
+            prints: zeros(alloc, PRINT_LIMIT)?,
+            printed: 0,
+            turns: 0,
+            frames,
+            depth: 0,
+        })
+    }
+
+    /// Goes to the start of the program, with a number of turns for its `while` loops.
+    pub fn begin(&mut self, turns: u64)
+        ensures begun { HasBegunRun turns self.new }
+        ensures prepared { (checked : Parts) → IsPreparedRun checked self.old
+            → IsPreparedRun checked self.new }
+    {
+        self.turns = turns;
+        self.printed = 0;
+        self.depth = 0;
+    }
+
+    /// The scalars, by their numbers.
+    pub fn scalars(&self) -> &[i64]
+        ensures { result.now ≡ self.now.scalars }
+    {
+        self.scalars.as_slice()
+    }
+
+    /// Sets a scalar, after a comprehension has changed it.
+    pub fn set_scalar(&mut self, scalar: u32, value: i64)
+        requires { scalar < length self.old.scalars }
+        ensures { self.new ≡ record self.old { scalars = slice_set self.old.scalars scalar value } }
+    {
+        self.assign(scalar, value);
+    }
+
+    /// What the program has printed so far.
+    pub fn prints(&self) -> &[i64]
+        requires { self.now.printed ≤ length self.now.prints }
+        ensures { result.now ≡ take self.now.printed self.now.prints }
+    {
+        &self.prints.as_slice()[..self.printed]
+    }
+
+    /// Goes on to the next event of a program that has begun.
+    fn go_on(&mut self, c: &Checked) -> MainStep
+        requires { CanAdvance self.old 0 c.now.items }
+        ensures { (mesh : MeshLists) (program : Main) (turns : ℕ) (p : Progress)
+            → (at : IsAt mesh program turns c.now.items p self.old)
+            → HasNext (record { mesh = mesh; turns = turns; parts = parts_of program })
+            c.now.items p at.remaining result self.new }
+    {
+        match self.advance(c.items(), 0) {
+            Some(step) => step,
+            None => MainStep::Over(RunEnd::Done),
         }
     }
 }
