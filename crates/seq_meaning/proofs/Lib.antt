@@ -7,6 +7,7 @@ pub mod MainHereLemmas
 pub mod MainItemLemmas
 pub mod MainPreservationLemmas
 pub mod MainValueLemmas
+pub mod MainStartLemmas
 pub mod MainStepLemmas
 pub mod NestingLemmas
 pub mod PathLemmas

@@ -178,8 +178,16 @@ assign_here {site = site} scalar how x (AssignCode {rest = more} place name old 
     let number : n ≡ scalar = cc in
     let same : y ≡ x = cc in
     let same_how : old ≡ how = cc in
-    record { place = place; name = name; value = e; rest = _; is = ap (λ how. item (MainAssign place name how e) more) same_how; bound = bound ∙ ap (λ n. Some (ScalarName n)) number;
-      value_is = subst (IsNumberCode site.environment e) same value; code = code }
+    record {
+      place = place;
+      name = name;
+      value = e;
+      rest = _;
+      is = ap (λ how. item (MainAssign place name how e) more) same_how;
+      bound = bound ∙ ap (λ n. Some (ScalarName n)) number;
+      value_is = subst (IsNumberCode site.environment e) same value;
+      code = code;
+    }
 assign_here scalar how x (FieldCode place name at kind value before code) e = absurd cc
 assign_here scalar how x (VarCode place name at value before code) e = absurd cc
 assign_here scalar how x (IfCode place has_else value first none code) e = absurd cc
@@ -252,9 +260,16 @@ while_here {parts = parts} place x body (WhileCode {site = site} {rest = more} {
     let same_place : there ≡ place = cc in
     let same : y ≡ x = cc in
     let same_body : record { scope = next_scope site; items = body_codes } ≡ body = cc in
-    record { test = test; tree = tree; rest = _; is = ap (λ place. item (MainWhile place test tree) more) same_place; scope = sym (ap (λ (b : BlockCode). b.scope) same_body);
-      value = subst (IsTruthCode site.environment test) same value; body_code = subst (λ (b : BlockCode). IsCode parts (block_start site) tree b.items) same_body inner;
-      code = code }
+    record {
+      test = test;
+      tree = tree;
+      rest = _;
+      is = ap (λ place. item (MainWhile place test tree) more) same_place;
+      scope = sym (ap (λ (b : BlockCode). b.scope) same_body);
+      value = subst (IsTruthCode site.environment test) same value;
+      body_code = subst (λ (b : BlockCode). IsCode parts (block_start site) tree b.items) same_body inner;
+      code = code;
+    }
 while_here there x block (FieldCode place name at kind value before code) e = absurd cc
 while_here there x block (VarCode place name at value before code) e = absurd cc
 while_here there x block (AssignCode place name how n bound value code) e = absurd cc
@@ -290,18 +305,40 @@ if_here {parts = parts} x first second (IfCode {site = site} {first = tree} {sec
     let same : y ≡ x = cc in
     let same_first : record { scope = next_scope site; items = first_codes } ≡ first = cc in
     let same_second : None ≡ second = cc in
-    record { place = place; test = test; first_tree = tree; second_tree = other; has_else = has_else; rest = _; is = refl; scope = sym (ap (λ (b : BlockCode). b.scope) same_first);
-      value = subst (IsTruthCode site.environment test) same value; first_code = subst (λ (b : BlockCode). IsCode parts (block_start site) tree b.items) same_first inner;
-      second_code = subst (ElseHere parts (after_block site (after_main (block_start site) tree)) other has_else) same_second none; code = code }
+    record {
+      place = place;
+      test = test;
+      first_tree = tree;
+      second_tree = other;
+      has_else = has_else;
+      rest = _;
+      is = refl;
+      scope = sym (ap (λ (b : BlockCode). b.scope) same_first);
+      value = subst (IsTruthCode site.environment test) same value;
+      first_code = subst (λ (b : BlockCode). IsCode parts (block_start site) tree b.items) same_first inner;
+      second_code = subst (ElseHere parts (after_block site (after_main (block_start site) tree)) other has_else) same_second none;
+      code = code;
+    }
 if_here {parts = parts} x first second (IfElseCode {site = site} {first = tree} {second = other} {first_codes = first_codes} {second_codes = second_codes} place has_else {test = test} {x = y} value inner some inner_second code) e =
     let o : ItemCode-F.If y (record { scope = next_scope site; items = first_codes }) (Some (record { scope = next_scope (after_block site (after_main (block_start site) tree)); items = second_codes })) ≡ ItemCode-F.If x first second =
-        sym (out_if y _ _) ∙ ap out-ItemCode e ∙ out_if x first second in
+    sym (out_if y _ _) ∙ ap out-ItemCode e ∙ out_if x first second in
     let same : y ≡ x = cc in
     let same_first : record { scope = next_scope site; items = first_codes } ≡ first = cc in
     let same_second : Some (record { scope = next_scope (after_block site (after_main (block_start site) tree)); items = second_codes }) ≡ second = cc in
-    record { place = place; test = test; first_tree = tree; second_tree = other; has_else = has_else; rest = _; is = refl; scope = sym (ap (λ (b : BlockCode). b.scope) same_first);
-      value = subst (IsTruthCode site.environment test) same value; first_code = subst (λ (b : BlockCode). IsCode parts (block_start site) tree b.items) same_first inner;
-      second_code = subst (ElseHere parts (after_block site (after_main (block_start site) tree)) other has_else) same_second (some, refl, inner_second); code = code }
+    record {
+      place = place;
+      test = test;
+      first_tree = tree;
+      second_tree = other;
+      has_else = has_else;
+      rest = _;
+      is = refl;
+      scope = sym (ap (λ (b : BlockCode). b.scope) same_first);
+      value = subst (IsTruthCode site.environment test) same value;
+      first_code = subst (λ (b : BlockCode). IsCode parts (block_start site) tree b.items) same_first inner;
+      second_code = subst (ElseHere parts (after_block site (after_main (block_start site) tree)) other has_else) same_second (some, refl, inner_second);
+      code = code;
+    }
 if_here x block second_block (FieldCode place name at kind value before code) e = absurd cc
 if_here x block second_block (VarCode place name at value before code) e = absurd cc
 if_here x block second_block (AssignCode place name how n bound value code) e = absurd cc

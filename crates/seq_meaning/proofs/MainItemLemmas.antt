@@ -233,25 +233,25 @@ module _ (w : World) (r : MainRun) (level : ℕ) (outside : List ℕ) (items : L
       go : Assigned n → Continues w level outside items p remaining r (record after_move { scalars = slice_set r.scalars scalar (assigned_value how (get_or r.scalars scalar (pos 0)) n) })
       go g = subst (λ old. Continues w level outside items p remaining r (record after_move { scalars = slice_set r.scalars scalar (assigned_value how old n) }))
           (sym (got r.scalars scalar g.old (s.has_state.scalars.holds scalar g.old g.known))) record {
-        later = assigned_state (assigned_value how g.old n);
-        rest = assign_rest;
-        is = g.is;
-        path = refl;
-        fields = refl;
-        stands = moved (record after_move { scalars = slice_set r.scalars scalar (assigned_value how g.old n) }) refl refl (assigned_state (assigned_value how g.old n)) here_now.site a.rest here_now.new a.code
-            (known_after_assignment scalar (assigned_value how g.old n) p.state ∙ here_now.known_is)
-            (subst (Descends (next_scalar here_now.site)) (sym (known_after_assignment scalar (assigned_value how g.old n) p.state)) here_now.descends)
-            (record {
-              scalars = holds_assigned r.scalars p.state scalar (assigned_value how g.old n) g.old g.known s.has_state.scalars;
-              prints = s.has_state.prints;
-              turns = s.has_state.turns;
-              each_scalar = length_set r.scalars scalar (assigned_value how g.old n) ∙ s.has_state.each_scalar;
-              each_print = s.has_state.each_print;
-              printed = s.has_state.printed;
-            })
-            (still_means (assigned_state (assigned_value how g.old n)) assign_rest g.is);
-        depth = refl;
-      }
+            later = assigned_state (assigned_value how g.old n);
+            rest = assign_rest;
+            is = g.is;
+            path = refl;
+            fields = refl;
+            stands = moved (record after_move { scalars = slice_set r.scalars scalar (assigned_value how g.old n) }) refl refl (assigned_state (assigned_value how g.old n)) here_now.site a.rest here_now.new a.code
+                (known_after_assignment scalar (assigned_value how g.old n) p.state ∙ here_now.known_is)
+                (subst (Descends (next_scalar here_now.site)) (sym (known_after_assignment scalar (assigned_value how g.old n) p.state)) here_now.descends)
+                (record {
+                  scalars = holds_assigned r.scalars p.state scalar (assigned_value how g.old n) g.old g.known s.has_state.scalars;
+                  prints = s.has_state.prints;
+                  turns = s.has_state.turns;
+                  each_scalar = length_set r.scalars scalar (assigned_value how g.old n) ∙ s.has_state.each_scalar;
+                  each_print = s.has_state.each_print;
+                  printed = s.has_state.printed;
+                })
+                (still_means (assigned_state (assigned_value how g.old n)) assign_rest g.is);
+            depth = refl;
+          }
 
   -- A PRINT
   module _ (place : Place) (x : NumberCode) (c : slice_get items frame.index ≡ Some (code.Print place x)) where

@@ -1,5 +1,5 @@
 -- A run of a main program, an event at a time. This project's own.
-use Rattle.std.specs.Prelude.{◌≡◌, ◌≢◌, ◌<◌, ◌≤◌, ℕ, suc, ◌+◌, max, Bool, true, false, if◌then◌else◌, Option, Some, None, List, [], ◌∷◌, ◌++◌, length, map, take, drop, replicate, slice_get, ℤ, Result, Ok, Err}
+use Rattle.std.specs.Prelude.{◌≡◌, ◌≢◌, ◌⊎◌, ◌<◌, ◌≤◌, ℕ, suc, ◌+◌, max, Bool, true, false, if◌then◌else◌, Option, Some, None, List, [], ◌∷◌, ◌++◌, length, map, take, drop, replicate, slice_get, ℤ, Result, Ok, Err}
 use Rattle.std.specs.List.{slice_set}
 use Rattle.std.specs.Option.{option_map, option_and_then}
 use Rattle.liszt_base.specs.Limits.{print_limit}
@@ -268,6 +268,10 @@ pub record IsAt (mesh : MeshLists) (program : Main) (turns : ℕ) (items : List 
 abbrev pub HasNext : World → List ItemCode → Progress → Computation Progress Done → MainStep → MainRun → Type 0
 HasNext w items p remaining (Over EndDone) after = Ends w [] p remaining after
 HasNext w items p remaining step after = HasAdvanced w 0 [] items p remaining (Some step) after
+
+-- what `next` asks: the run is before its first event, or can advance
+abbrev pub CanGoOn : CheckedProgram → MainRun → Type 0
+CanGoOn checked r = ((r.depth ≡ 0) × IsPreparedRun checked r) ⊎ CanAdvance r 0 checked.items
 
 -- the first event opens the outermost scope
 pub record HasOpened (mesh : MeshLists) (program : Main) (turns : ℕ) (items : List ItemCode) (step : MainStep) (after : MainRun) : Type 0 where

@@ -1,4 +1,5 @@
-//! The meaning of whole programs. So far definitions, with worked cases and laws.
+//! The meaning of whole programs: definitions, with worked cases and laws; the main program, an event at a time; and the words of
+//! the declared fields of a sequential run.
 #![tactic(auto)]
 
 mod cases;
@@ -9,4 +10,5 @@ mod store_cases;
 pub mod store_laws;
 mod values;
 
+pub use main_run::{Frame, MainRun, MainStep};
 pub use seq_store::{FieldRange, SeqStore};

@@ -5,12 +5,15 @@ ghost use Rattle.std.specs.Option.{option_map};
 ghost use Rattle.liszt_base.specs.Limits.{print_limit};
 ghost use Rattle.liszt_base.specs.MeshLists.{MeshLists};
 ghost use Rattle.liszt_tree.specs.Tree.{Main};
+ghost use Rattle.liszt_base.specs.Corners.{IsMesh};
+ghost use Rattle.mesh_topology.specs.Elements.{corner_lists};
+ghost use Rattle.phase_types.specs.Checked.{checked_program};
 ghost use Rattle.phase_types.specs.Environments.{parts_of};
 ghost use Rattle.phase_types.specs.declared.state.CheckedProgram.{CheckedProgram as Parts};
 ghost use Rattle.kernel_eval.specs.Outcomes.{Computation, Done};
 ghost use Rattle.resolved_code.specs.declared.items.ItemCode.{out-ItemCode};
 ghost use Rattle.resolved_code.specs.declared.items.ItemCode.TheVariants as Code;
-ghost use Rattle.seq_meaning.specs.MainRuns.{CanAdvance, CanDo, HasDone, HasAdvanced, HasDoneItem, HasBegunRun, HasNext, HasPrinted, HasTakenTurn, IsAt, IsPreparedRun, KeepsBelow, StandsAt, World, block_at, block_in, deepest, frames_left, nested, next_frame};
+ghost use Rattle.seq_meaning.specs.MainRuns.{CanAdvance, CanDo, CanGoOn, HasDone, HasAdvanced, HasDoneItem, HasBegunRun, HasNext, HasOpened, HasPrinted, HasTakenTurn, IsAt, IsPreparedRun, KeepsBelow, StandsAt, World, block_at, block_in, deepest, frames_left, nested, next_frame};
 ghost use Rattle.seq_meaning.specs.Runs.{Progress};
 
 use crate::values::{main_trap, number, scalar_at, truth};
@@ -170,10 +173,11 @@ impl MainRun {
     fn enter(&mut self, level: usize, frame: Frame, after_else: bool)
         requires { suc level < length self.old.frames }
         ensures { self.new ≡ record self.old {
-            frames = slice_set (slice_set self.old.frames level
-                (record { index = frame.index; after_else = after_else })) (suc level)
-                (record { index = 0; after_else = false });
-            depth = suc (suc level) } }
+          frames = slice_set (slice_set self.old.frames level
+              (record { index = frame.index; after_else = after_else })) (suc level)
+              (record { index = 0; after_else = false });
+          depth = suc (suc level);
+        } }
     {
         let _levels = self.frames.len();
         self.frames.set(
@@ -456,8 +460,9 @@ impl MainRun {
         requires level { level < length self.old.frames }
         requires frame { frame.index < count }
         ensures { self.new ≡ record self.old {
-            depth = suc level;
-            frames = frames_left self.old.frames level frame is_repeated } }
+          depth = suc level;
+          frames = frames_left self.old.frames level frame is_repeated;
+        } }
     {
         let _levels = self.frames.len();
         self.depth = level + 1;
@@ -528,5 +533,43 @@ impl MainRun {
             Some(step) => step,
             None => MainStep::Over(RunEnd::Done),
         }
+    }
+
+    /// Opens the outermost scope.
+    fn open(&mut self)
+        requires { 0 < length self.old.frames }
+        ensures { self.new ≡ record self.old {
+          frames = slice_set self.old.frames 0 (record { index = 0; after_else = false });
+          depth = 1;
+        } }
+    {
+        self.frames.set(
+            0,
+            Frame {
+                index: 0,
+                after_else: false,
+            },
+        );
+        self.depth = 1;
+    }
+
+    /// The next event of a program that has begun: the first one opens the outermost scope.
+    pub fn next(&mut self, c: &Checked) -> MainStep
+        requires { CanGoOn c.now self.old }
+        ensures opened { (mesh : MeshLists) (program : Main) (turns : ℕ)
+            → IsMesh (length mesh.points) (corner_lists mesh)
+            → checked_program program ≡ Ok c.now
+            → HasBegunRun turns self.old → IsPreparedRun c.now self.old
+            → HasOpened mesh program turns c.now.items result self.new }
+        ensures gone_on { (mesh : MeshLists) (program : Main) (turns : ℕ) (p : Progress)
+            → (at : IsAt mesh program turns c.now.items p self.old)
+            → HasNext (record { mesh = mesh; turns = turns; parts = parts_of program })
+            c.now.items p at.remaining result self.new }
+    {
+        if self.depth == 0 {
+            self.open();
+            return MainStep::Enter(0);
+        }
+        self.go_on(c)
     }
 }

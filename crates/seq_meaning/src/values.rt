@@ -1,5 +1,4 @@
 //! The values of expressions of the main program, from the scalars alone.
-#![allow(dead_code)]
 
 ghost use Rattle.std.specs.Prelude.{◌≡◌, ◌≢◌, Err, get_or, map, pos};
 ghost use Rattle.code_eval.specs.Stops.{NoMeaning};

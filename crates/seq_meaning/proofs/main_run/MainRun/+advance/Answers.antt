@@ -17,10 +17,11 @@ run_items-requires-clause-innermost t c = let l = stands_below c.requires.stands
 
 pub advance-requires : goal.advance-requires
 advance-requires t c =
-    let deep : suc c.args.level < c.args.self.now.depth = omega (arith, c.innermost.ensures, c.if-level-innermost.false) in
-    (omega (arith, c.decreases, deep),
-    can_at c.args.self.now c.args.level (c.args.level + 1) c.in_ok-block.block.now.items c.as_slice.result.now (plus_one c.args.level) c.as_slice.ensures
-    (can_inside c.requires deep c.frame-frame.result c.frame-frame.ensures (record { block = c.in_ok-block.block.now; is_repeated = c.in_ok-block.is_repeated }) (sym c.in_ok-block.ensures.block) c.in_ok-block.ensures.deeper))
+    let deep : suc c.args.level < c.args.self.now.depth = omega (arith, c.innermost.ensures, c.if-level-innermost.false) in (
+      omega (arith, c.decreases, deep),
+      can_at c.args.self.now c.args.level (c.args.level + 1) c.in_ok-block.block.now.items c.as_slice.result.now (plus_one c.args.level) c.as_slice.ensures
+          (can_inside c.requires deep c.frame-frame.result c.frame-frame.ensures (record { block = c.in_ok-block.block.now; is_repeated = c.in_ok-block.is_repeated }) (sym c.in_ok-block.ensures.block) c.in_ok-block.ensures.deeper),
+    )
 
 pub returns-in-Some-clause-advanced : goal.returns-in-Some-clause-advanced
 returns-in-Some-clause-advanced t c = λ w outside p remaining s.

@@ -8,7 +8,7 @@ abbrev pub invariant-loop-frame : goal.invariant-loop-frame
 invariant-loop-frame l =
     CanAdvance l.self l.level l.items × (suc l.level ≡ l.self.depth) × KeepsBelow l.level l.initial.self l.self
     × ((w : World) (outside : List ℕ) (p : Progress) (remaining : Computation Progress Done) → StandsAt w l.initial.self l.level outside l.items p remaining
-        → Continues w l.level outside l.items p remaining l.initial.self l.self)
+    → Continues w l.level outside l.items p remaining l.initial.self l.self)
 
 abbrev pub decreases-loop-frame : goal.decreases-loop-frame
 decreases-loop-frame l = length l.items - (get_or l.self.frames l.level (record { index = 0; after_else = false })).index

@@ -1,0 +1,54 @@
+-- A run of the main program stands at its start.
+use Rattle.std.proofs.Common.{◌≡◌, ◌≢◌, ◌<◌, ◌≤◌, ℕ, ◌+◌, Bool, true, false, List, [], ◌∷◌, length, take, refl, sym, ap, subst, ◌∙◌, arith}
+use Rattle.std.specs.List.{slice_set}
+use Rattle.std.specs.Prelude.{Option, Some, None, is_some, slice_get, ℤ, Result, Ok, Err}
+use Rattle.liszt_base.specs.Corners.{IsMesh}
+use Rattle.liszt_base.specs.Limits.{print_limit}
+use Rattle.liszt_base.specs.MeshLists.{MeshLists}
+use Rattle.liszt_tree.specs.Tree.{Main}
+use Rattle.mesh_topology.specs.Elements.{corner_lists}
+use Rattle.phase_types.specs.declared.state.CheckedProgram.{CheckedProgram}
+use Rattle.phase_types.specs.Checked.{checked_program}
+use Rattle.phase_types.specs.Environments.{parts_of, start}
+use Rattle.phase_types.proofs.CheckedLemmas.{checked_is_typed, checked_parts}
+use Rattle.kernel_eval.specs.Iterations.{end_of}
+use Rattle.kernel_eval.specs.Outcomes.{Stop, NoMeaning, Done}
+use Rattle.seq_meaning.specs.MainRuns.{MainRun, Frame, Stands, AtItem, StandsAt, IsPreparedRun, HasBegunRun, IsAt, HasOpened, logged, deepest}
+use Rattle.seq_meaning.specs.Runs.{ScopeOpened, Progress, main_meaning, empty, run, run_end}
+use Rattle.seq_meaning.specs.declared.main_run.MainStep.TheVariants.{Enter}
+use Rattle.seq_meaning.proofs.ItemCodeLemmas.{checked_is_code}
+use Rattle.seq_meaning.proofs.MainStepLemmas.{set_here, length_set}
+use Rattle.seq_meaning.proofs.TypedRunLemmas.{run_ends}
+
+abbrev first_frame : Frame
+first_frame = record { index = 0; after_else = false }
+
+has_an_end : (answer : Result Done Stop) → is_some (end_of answer) ≡ true → answer ≢ Err NoMeaning
+has_an_end answer e none = false_or_true (sym (ap (λ answer. is_some (end_of answer)) none) ∙ e) where
+  false_or_true : false ≡ true → ⊥
+  false_or_true e = absurd cc
+
+pub opened : (mesh : MeshLists) (program : Main) (turns : ℕ) (checked : CheckedProgram) (r after : MainRun) → IsMesh (length mesh.points) (corner_lists mesh) → checked_program program ≡ Ok checked
+    → HasBegunRun turns r → IsPreparedRun checked r → after ≡ record r { frames = slice_set r.frames 0 first_frame; depth = 1 }
+    → HasOpened mesh program turns checked.items (Enter 0) after
+opened mesh program turns checked r after is_mesh is begun prepared same =
+    subst (HasOpened mesh program turns checked.items (Enter 0)) (sym same) record {
+      step_is = refl;
+      at = record {
+        remaining = main_meaning mesh turns start program;
+        is = refl;
+        stands = record {
+          stands = AtItem first_frame start program [] (set_here r.frames 0 first_frame (omega (arith, prepared.frames))) refl (checked_is_code program checked is) refl tt;
+          has_state = record {
+            scalars = record { holds = λ number value e. absurd cc };
+            prints = ap (λ printed. take printed r.prints) (sym begun.printed);
+            turns = sym begun.turns_are;
+            each_scalar = prepared.scalars ∙ ap (λ names. length names) (checked_parts program checked is).scalars;
+            each_print = prepared.prints;
+            printed = omega (arith, begun.printed);
+          };
+          room = omega (arith, prepared.frames, length_set r.frames 0 first_frame);
+          has_meaning = has_an_end (run mesh program turns).answer (run_ends mesh turns is_mesh program (checked_is_typed program checked is));
+        };
+      };
+    }
