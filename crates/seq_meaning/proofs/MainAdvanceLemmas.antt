@@ -1,24 +1,22 @@
 -- A run of the main program goes on in an inner block.
-use Rattle.std.proofs.Common.{◌≡◌, ◌≢◌, ◌<◌, ◌≤◌, ℕ, suc, ◌+◌, ◌-◌, Bool, true, false, List, [], ◌∷◌, ◌++◌, length, map, take, drop, replicate, refl, sym, ap, subst, ◌∙◌, arith}
+use Rattle.std.proofs.Common.{◌≡◌, ◌<◌, ◌≤◌, ℕ, suc, ◌+◌, ◌-◌, Bool, true, false, List, ◌++◌, length, drop, refl, sym, ap, subst, ◌∙◌, arith}
 use Rattle.std.proofs.lemmas.List.{length-append, length-map}
 use Rattle.std.proofs.lemmas.Option.{slice_get_within}
-use Rattle.std.specs.List.{slice_set}
 use Rattle.std.specs.Option.{option_and_then}
-use Rattle.std.specs.Prelude.{Option, Some, None, slice_get, ℤ, Result, Ok, Err}
+use Rattle.std.specs.Prelude.{Option, Some, None, slice_get, Result, Ok, Err}
 use Rattle.liszt_base.specs.declared.answers.RunEnd.TheVariants.{Trap as EndTrap, Done as EndDone}
-use Rattle.liszt_base.specs.declared.answers.Trap.{Trap}
 use Rattle.liszt_tree.specs.Tree.{Main}
 use Rattle.resolved_code.specs.declared.items.ItemCode.{ItemCode, out-ItemCode}
 use Rattle.phase_types.specs.Environments.{Site, next_scalar}
-use Rattle.kernel_eval.specs.Outcomes.{Stop, Trapped, NoMeaning, Outcome, Computation, Done, pure, halt, continue_with, ◌>>◌}
-use Rattle.kernel_eval.specs.States.{Fields, State, known_scalars, scalar_value}
-use Rattle.seq_meaning.specs.MainCode.{HoldScalars, IsCode}
-use Rattle.seq_meaning.specs.MainRuns.{Frame, MainRun, InnerBlock, block_at, index_after, block_and_rest, deepest, frames_left, World, Descends, Stands, AtItem, InBlock, HasState, StandsAt, KeepsBelow, GoesOn, Reaches, Traps, Ends, HasAdvanced, AreSame, AreFewer, HaveOneMore, CanAdvance, block_in, next_frame, logged}
+use Rattle.kernel_eval.specs.Outcomes.{Stop, Trapped, Outcome, Computation, Done, pure, halt, continue_with, ◌>>◌}
+use Rattle.kernel_eval.specs.States.{Fields, State, known_scalars}
+use Rattle.seq_meaning.specs.MainCode.{IsCode}
+use Rattle.seq_meaning.specs.MainRuns.{Frame, MainRun, InnerBlock, block_at, index_after, block_and_rest, deepest, frames_left, World, Descends, Stands, AtItem, InBlock, StandsAt, KeepsBelow, GoesOn, Ends, HasAdvanced, AreSame, AreFewer, HaveOneMore, CanAdvance, block_in, next_frame, logged}
 use Rattle.seq_meaning.specs.Runs.{Event, ScopeOpened, ScopeClosed, FieldDeclared, ComprehensionReached, Progress, log_event, lift_state, modify_state, after_scope, all_or_nothing, comprehension, main_meaning}
 use Rattle.seq_meaning.specs.declared.main_run.MainStep.{MainStep}
 use Rattle.seq_meaning.specs.declared.main_run.MainStep.TheVariants.{Enter, Leave, Declare, Comp, Over}
 use Rattle.seq_meaning.proofs.MainHereLemmas.{stands_below}
-use Rattle.seq_meaning.proofs.MainStepLemmas.{set_here, set_there, length_set, drop_keys, drop_front, value_in_rest, descends_in}
+use Rattle.seq_meaning.proofs.MainStepLemmas.{set_here, set_there, length_set, drop_keys, drop_front, value_in_rest}
 
 -- THE BLOCK THAT IS OPEN at a level
 pub record Inside (w : World) (frames : List Frame) (depth level : ℕ) (outside : List ℕ) (items : List ItemCode) (known : List ℕ) (remaining : Computation Progress Done) : Type 0 where

@@ -1,17 +1,17 @@
 -- A run of the main program goes through blocks.
-use Rattle.std.proofs.Common.{◌≡◌, ◌≢◌, ◌<◌, ◌≤◌, ℕ, suc, ◌+◌, ◌-◌, Bool, true, false, List, [], ◌∷◌, ◌++◌, length, take, drop, get_or, refl, sym, ap, subst, ◌∙◌, arith, rules}
+use Rattle.std.proofs.Common.{◌≡◌, ◌<◌, ◌≤◌, ℕ, suc, List, [], length, drop, refl, ap, subst, ◌∙◌}
 use Rattle.std.proofs.lemmas.Option.{slice_get_within, slice_get_past}
-use Rattle.std.specs.Prelude.{Option, Some, None, slice_get, ℤ, Result, Ok, Err}
+use Rattle.std.specs.Prelude.{Option, Some, None, slice_get, Result, Ok, Err}
 use Rattle.liszt_base.specs.declared.answers.RunEnd.TheVariants.{Trap as EndTrap, Done as EndDone}
 use Rattle.liszt_base.specs.declared.answers.Trap.{Trap}
-use Rattle.liszt_tree.specs.Tree.{Main, no_item, item}
+use Rattle.liszt_tree.specs.Tree.{Main}
 use Rattle.resolved_code.specs.declared.items.ItemCode.{ItemCode}
 use Rattle.phase_types.specs.Environments.{Site}
-use Rattle.kernel_eval.specs.Outcomes.{Stop, Trapped, NoMeaning, Outcome, Computation, Done, pure, halt, continue_with, ◌>>◌}
-use Rattle.kernel_eval.specs.States.{Fields, State, known_scalars}
+use Rattle.kernel_eval.specs.Outcomes.{Computation, Done, pure}
+use Rattle.kernel_eval.specs.States.{Fields, known_scalars}
 use Rattle.seq_meaning.specs.MainCode.{IsCode, NoCode}
-use Rattle.seq_meaning.specs.MainRuns.{Frame, MainRun, World, Descends, Stands, AtItem, InBlock, HasState, StandsAt, KeepsBelow, GoesOn, Reaches, Traps, Ends, Continues, HasAdvanced, HasDone, HasDoneItem, AreSame, AreFewer, HaveOneMore, CanAdvance, CanDo, next_frame, logged}
-use Rattle.seq_meaning.specs.Runs.{Event, ScopeOpened, ScopeClosed, FieldDeclared, ComprehensionReached, Progress, main_meaning}
+use Rattle.seq_meaning.specs.MainRuns.{Frame, MainRun, World, Stands, AtItem, InBlock, StandsAt, KeepsBelow, GoesOn, Ends, Continues, HasAdvanced, HasDoneItem, AreSame, AreFewer, HaveOneMore, CanAdvance, CanDo, next_frame}
+use Rattle.seq_meaning.specs.Runs.{Event, ScopeOpened, ScopeClosed, FieldDeclared, Progress, main_meaning}
 use Rattle.seq_meaning.specs.declared.main_run.MainStep.{MainStep}
 use Rattle.seq_meaning.specs.declared.main_run.MainStep.TheVariants.{Enter, Leave, Declare, Comp, Over}
 use Rattle.seq_meaning.proofs.MainHereLemmas.{Here, here}

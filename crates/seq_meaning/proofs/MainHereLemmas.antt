@@ -1,12 +1,11 @@
 -- Where a run of the main program stands in its innermost block, and the item there.
-use Rattle.std.proofs.Common.{◌≡◌, ◌≢◌, ◌<◌, ◌≤◌, ℕ, suc, ◌+◌, Bool, true, false, List, [], ◌∷◌, ◌++◌, length, take, drop, refl, sym, ap, subst, ◌∙◌, arith, rules}
-use Rattle.std.proofs.lemmas.Option.{slice_get_within}
+use Rattle.std.proofs.Common.{◌≡◌, ◌<◌, ℕ, suc, Bool, true, false, List, ◌∷◌, ◌++◌, length, drop, refl, sym, ap, subst, ◌∙◌, arith, rules}
 use Rattle.std.specs.List.{slice_set}
-use Rattle.std.specs.Prelude.{Option, Some, None, slice_get, ℤ, Result, Ok, Err}
+use Rattle.std.specs.Prelude.{Option, Some, None, slice_get}
 use Rattle.liszt_base.specs.declared.answers.Place.{Place}
 use Rattle.liszt_base.specs.declared.elements.Kind.{Kind}
 use Rattle.liszt_tree.specs.declared.tree.How.{How}
-use Rattle.liszt_tree.specs.Tree.{Expression, Body, MainItem, MainField, MainVar, MainAssign, MainIf, MainWhile, MainFor, Print, Main, no_item, item}
+use Rattle.liszt_tree.specs.Tree.{Expression, Body, MainItem, MainField, MainVar, MainAssign, MainIf, MainWhile, MainFor, Print, Main, item}
 use Rattle.resolved_code.specs.declared.expressions.NumberCode.{NumberCode}
 use Rattle.resolved_code.specs.declared.expressions.TruthCode.{TruthCode}
 use Rattle.resolved_code.specs.declared.items.BlockCode.{BlockCode}
@@ -15,14 +14,11 @@ use Rattle.resolved_code.specs.declared.items.ItemCode.TheOpen.{ItemCode-F}
 use Rattle.resolved_code.specs.declared.items.ItemCode.TheVariants as code
 use Rattle.phase_types.specs.Environments.{Part, IsPrefix, Site, ScalarName, binding_of, scalar_part, next_field, next_scalar, next_comprehension, next_scope, block_start, after_block, has_else_block, after_item, after_main}
 use Rattle.phase_types.proofs.PartLemmas.{item_is_prefix, next_part}
-use Rattle.kernel_eval.specs.Outcomes.{Trapped, NoMeaning, Outcome, Computation, Done, halt, ◌>>=◌, ◌>>◌}
-use Rattle.kernel_eval.specs.States.{State, known_scalars, main_evaluation}
-use Rattle.kernel_eval.specs.Meaning.{number_in}
-use Rattle.seq_meaning.specs.MainCode.{HoldScalars, IsNumberCode, IsTruthCode, IsCode, NoCode, FieldCode, VarCode, AssignCode, IfCode, IfElseCode, WhileCode, ForCode, PrintCode}
-use Rattle.seq_meaning.specs.MainRuns.{Frame, MainRun, World, Descends, Stands, AtItem, InBlock, HasState, StandsAt, KeepsBelow, next_frame}
-use Rattle.seq_meaning.specs.MainValues.{main_number}
-use Rattle.seq_meaning.specs.Runs.{Progress, main_meaning, number_at}
-use Rattle.seq_meaning.proofs.MainStepLemmas.{set_here, set_there, length_set, drop_at, descends_below, number_changes_nothing, IsEvaluated, evaluated}
+use Rattle.kernel_eval.specs.Outcomes.{Computation, Done}
+use Rattle.seq_meaning.specs.MainCode.{IsNumberCode, IsTruthCode, IsCode, FieldCode, VarCode, AssignCode, IfCode, IfElseCode, WhileCode, ForCode, PrintCode}
+use Rattle.seq_meaning.specs.MainRuns.{Frame, MainRun, World, Descends, Stands, AtItem, InBlock, KeepsBelow}
+use Rattle.seq_meaning.specs.Runs.{Progress, main_meaning}
+use Rattle.seq_meaning.proofs.MainStepLemmas.{set_here, set_there, length_set, drop_at, descends_below}
 use Rattle.seq_meaning.proofs.TypedRunLemmas.{more_of}
 
 pub stands_below : {w : World} {frames : List Frame} {depth level : ℕ} {outside known : List ℕ} {items : List ItemCode} {remaining : Computation Progress Done}

@@ -1,5 +1,5 @@
 -- One item of the main program, by its code.
-use Rattle.std.proofs.Common.{◌≡◌, ◌≢◌, ◌<◌, ◌≤◌, ℕ, suc, ◌+◌, Bool, true, false, List, [], ◌∷◌, ◌++◌, length, take, drop, replicate, append_assoc, refl, sym, ap, subst, ◌∙◌, arith}
+use Rattle.std.proofs.Common.{◌≡◌, ◌≢◌, ◌<◌, ◌≤◌, ℕ, suc, ◌+◌, Bool, true, false, List, [], ◌∷◌, ◌++◌, length, drop, append_assoc, refl, sym, ap, subst, ◌∙◌, arith}
 use Rattle.std.proofs.lemmas.Bool.{lt-ltb, le-ltb}
 use Rattle.std.proofs.lemmas.Option.{slice_get_within}
 use Rattle.std.proofs.Math.Nat.{le-max_left}
@@ -11,7 +11,6 @@ use Rattle.liszt_base.specs.declared.answers.Place.{Place}
 use Rattle.liszt_base.specs.declared.answers.Trap.{Trap}
 use Rattle.liszt_base.specs.declared.answers.TrapKind.TheVariants.{Prints, Spent}
 use Rattle.liszt_tree.specs.declared.tree.How.{How}
-use Rattle.liszt_base.specs.declared.elements.Kind.{Kind}
 use Rattle.liszt_tree.specs.Tree.{Expression, MainItem, MainField, MainVar, MainIf, MainWhile, MainFor, Main, item}
 use Rattle.mesh_topology.specs.Elements.{count}
 use Rattle.resolved_code.specs.declared.expressions.NumberCode.{NumberCode}
@@ -20,16 +19,16 @@ use Rattle.resolved_code.specs.declared.items.BlockCode.{BlockCode}
 use Rattle.resolved_code.specs.declared.items.ItemCode.{ItemCode, out-ItemCode}
 use Rattle.resolved_code.specs.declared.items.ItemCode.TheOpen.{ItemCode-F}
 use Rattle.resolved_code.specs.declared.items.ItemCode.TheVariants as code
-use Rattle.phase_types.specs.Environments.{Comprehension, binding_of, Part, FieldPart, ScalarPart, ComprehensionPart, IsPrefix, Site, field_part, scalar_part, comprehension_part, fields_in, scalars_in, comprehensions_in, next_field, next_scalar, next_comprehension, next_scope, comprehension_at, block_start, after_block, has_else_block, after_item, after_main}
+use Rattle.phase_types.specs.Environments.{Comprehension, binding_of, Part, FieldPart, ScalarPart, ComprehensionPart, Site, field_part, scalar_part, comprehension_part, fields_in, scalars_in, comprehensions_in, next_field, next_scalar, next_comprehension, next_scope, comprehension_at, block_start, after_block, has_else_block, after_item, after_main}
 use Rattle.phase_types.proofs.PartLemmas.{part_at, next_part, prefix_of_prefix, main_is_prefix}
 use Rattle.kernel_eval.specs.Outcomes.{Stop, Trapped, NoMeaning, Outcome, Computation, Done, halt, skip, continue_with, take_turn, if_then_else, ◌>>=◌, ◌>>◌}
-use Rattle.kernel_eval.specs.States.{State, scalar_value, with_scalar_value, known_scalars, main_evaluation}
+use Rattle.kernel_eval.specs.States.{scalar_value, with_scalar_value, known_scalars, main_evaluation}
 use Rattle.kernel_eval.specs.Meaning.{assigned_value, trap, number_in, truth_in}
 use Rattle.seq_meaning.specs.MainCode.{HoldScalars, IsNumberCode, IsTruthCode, IsCode}
 use Rattle.seq_meaning.specs.MainRuns.{Frame, MainRun, World, Descends, Stands, AtItem, InBlock, block_and_rest, block_in, block_at, index_after, nested, deepest, HasState, StandsAt, GoesOn, Reaches, Traps, Continues, HaveOneMore, AreSame, logged, next_frame, KeepsBelow, CanDo, HasDone}
 use Rattle.seq_meaning.specs.declared.main_run.MainStep.TheVariants.{Enter, Declare, Comp}
 use Rattle.seq_meaning.specs.MainValues.{main_trap, main_number, main_truth}
-use Rattle.seq_meaning.specs.Runs.{Progress, ScopeOpened, in_scope, program_turns, item_meaning, ComprehensionReached, assign_main_name, assign_main_scalar, print_number, in_program, FieldDeclared, main_meaning, number_at, truth_at, modify_state, log_event, with_field, with_scalar}
+use Rattle.seq_meaning.specs.Runs.{Progress, ScopeOpened, in_scope, program_turns, item_meaning, assign_main_name, assign_main_scalar, print_number, in_program, FieldDeclared, main_meaning, number_at, truth_at, modify_state, log_event, with_field, with_scalar}
 use Rattle.seq_meaning.proofs.MainHereLemmas.{Here, here, code_here, at_next, keeps_below, scalars_after_item, FieldHere, field_here, VarHere, var_here, AssignHere, assign_here, PrintHere, print_here, ForHere, for_here, WhileHere, while_here, ElseHere, IfHere, if_here, out_if, out_while, block_descends}
 use Rattle.kernel_eval.proofs.LoopLemmas.{loop_is}
 use Rattle.seq_meaning.proofs.MainCodeLemmas.{got}

@@ -1,20 +1,19 @@
 -- A run of the main program stands at its start.
-use Rattle.std.proofs.Common.{◌≡◌, ◌≢◌, ◌<◌, ◌≤◌, ℕ, ◌+◌, Bool, true, false, List, [], ◌∷◌, length, take, refl, sym, ap, subst, ◌∙◌, arith}
+use Rattle.std.proofs.Common.{◌≡◌, ◌≢◌, ℕ, true, false, [], length, take, refl, sym, ap, subst, ◌∙◌, arith}
 use Rattle.std.specs.List.{slice_set}
-use Rattle.std.specs.Prelude.{Option, Some, None, is_some, slice_get, ℤ, Result, Ok, Err}
+use Rattle.std.specs.Prelude.{is_some, Result, Ok, Err}
 use Rattle.liszt_base.specs.Corners.{IsMesh}
-use Rattle.liszt_base.specs.Limits.{print_limit}
 use Rattle.liszt_base.specs.MeshLists.{MeshLists}
 use Rattle.liszt_tree.specs.Tree.{Main}
 use Rattle.mesh_topology.specs.Elements.{corner_lists}
 use Rattle.phase_types.specs.declared.state.CheckedProgram.{CheckedProgram}
 use Rattle.phase_types.specs.Checked.{checked_program}
-use Rattle.phase_types.specs.Environments.{parts_of, start}
+use Rattle.phase_types.specs.Environments.{start}
 use Rattle.phase_types.proofs.CheckedLemmas.{checked_is_typed, checked_parts}
 use Rattle.kernel_eval.specs.Iterations.{end_of}
 use Rattle.kernel_eval.specs.Outcomes.{Stop, NoMeaning, Done}
-use Rattle.seq_meaning.specs.MainRuns.{MainRun, Frame, Stands, AtItem, StandsAt, IsPreparedRun, HasBegunRun, IsAt, HasOpened, logged, deepest}
-use Rattle.seq_meaning.specs.Runs.{ScopeOpened, Progress, main_meaning, empty, run, run_end}
+use Rattle.seq_meaning.specs.MainRuns.{MainRun, Frame, AtItem, IsPreparedRun, HasBegunRun, HasOpened}
+use Rattle.seq_meaning.specs.Runs.{main_meaning, run}
 use Rattle.seq_meaning.specs.declared.main_run.MainStep.TheVariants.{Enter}
 use Rattle.seq_meaning.proofs.ItemCodeLemmas.{checked_is_code}
 use Rattle.seq_meaning.proofs.MainStepLemmas.{set_here, length_set}

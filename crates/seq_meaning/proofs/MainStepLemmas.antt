@@ -1,5 +1,5 @@
 -- Lists, scalars and evaluations in the steps of a run of the main program.
-use Rattle.std.proofs.Common.{◌≡◌, ◌≢◌, ◌<◌, ◌≤◌, ◌⊎◌, ℕ, zero, suc, ◌+◌, ◌-◌, ◌==◌, Bool, true, false, List, [], ◌∷◌, ◌++◌, length, map, take, drop, get_or, refl, sym, ap, subst, ◌∙◌, inl, inr, arith, eqb-true, eq-eqb, ne_eqb, cond}
+use Rattle.std.proofs.Common.{◌≡◌, ◌≢◌, ◌<◌, ◌≤◌, ◌⊎◌, ℕ, zero, suc, ◌==◌, true, false, List, [], ◌∷◌, ◌++◌, length, map, take, drop, get_or, refl, sym, ap, subst, ◌∙◌, inl, inr, arith, eqb-true, eq-eqb, ne_eqb}
 use Rattle.std.proofs.lemmas.Bool.{cases_Bool}
 use Rattle.std.proofs.lemmas.Option.{slice_get_within}
 use Rattle.std.specs.List.{slice_set}
@@ -9,7 +9,7 @@ use Rattle.liszt_base.specs.declared.answers.Trap.{Trap}
 use Rattle.liszt_tree.specs.Tree.{Expression}
 use Rattle.phase_types.specs.Environments.{Environment, lookup}
 use Rattle.kernel_eval.specs.Meaning.{Value, NumberValue, TruthValue, ElementValue, number_of, truth_of, meaning, number_in, truth_in}
-use Rattle.kernel_eval.specs.Outcomes.{Stop, Trapped, NoMeaning, Outcome, pure, halt, continue_with, and_then, ◌>>=◌, ◌>>◌}
+use Rattle.kernel_eval.specs.Outcomes.{Stop, Trapped, NoMeaning, Outcome, halt, continue_with, ◌>>=◌, ◌>>◌}
 use Rattle.kernel_eval.specs.States.{State, EvaluationState, scalar_value, with_scalar_value, known_scalars, main_evaluation}
 use Rattle.kernel_eval.proofs.MainExpressionLemmas.{nothing_changed}
 use Rattle.kernel_eval.proofs.ReductionLemmas.{updated, not_updated}

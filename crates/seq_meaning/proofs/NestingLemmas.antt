@@ -1,14 +1,13 @@
 -- How deep blocks are nested.
-use Rattle.std.proofs.Common.{◌≡◌, ◌≤◌, ◌<◌, ℕ, zero, suc, ◌+◌, ◌-◌, List, [], ◌∷◌, ◌++◌, map, take, length, get_or, rules, refl, sym, ap, subst, ◌∙◌, arith}
+use Rattle.std.proofs.Common.{◌≡◌, ◌≤◌, ◌<◌, ℕ, zero, suc, ◌+◌, ◌-◌, List, [], ◌∷◌, take, length, get_or, rules, sym, subst, arith}
 use Rattle.std.proofs.Math.Nat.{le-max_left, le-max_right, max-le}
-use Rattle.std.specs.Option.{option_map}
 use Rattle.std.specs.Prelude.{IfSome, max, Option, Some, None, slice_get}
 use Rattle.liszt_base.specs.declared.answers.Place.{Place}
 use Rattle.resolved_code.specs.declared.expressions.TruthCode.{TruthCode}
 use Rattle.resolved_code.specs.declared.items.BlockCode.{BlockCode}
 use Rattle.resolved_code.specs.declared.items.ItemCode.{ItemCode, the_lemmas}
 use Rattle.resolved_code.specs.declared.items.ItemCode.TheVariants as code
-use Rattle.seq_meaning.specs.MainRuns.{greatest, or_none, nested, deepest}
+use Rattle.seq_meaning.specs.MainRuns.{nested, deepest}
 
 pub nested_if : (test : TruthCode) (first second : BlockCode) → nested (code.If test first (Some second)) ≡ max (1 + deepest first.items) (1 + deepest second.items)
 nested_if test first second = search (rules, the_lemmas)

@@ -16,7 +16,7 @@ use Rattle.resolved_code.specs.declared.items.ItemCode.TheOpen.{ItemCode-F, Bloc
 use Rattle.phase_types.specs.declared.info.FieldInfo.{FieldInfo}
 use Rattle.phase_types.specs.declared.state.CheckedProgram.{CheckedProgram}
 use Rattle.phase_types.specs.Environments.{parts_of, Comprehension, Part, Site, fields_in, scalars_in, comprehensions_in, first_declared, next_scalar}
-use Rattle.kernel_eval.specs.Outcomes.{NoMeaning, Trapped, Outcome, Computation, Done, pure, halt, ◌>>◌}
+use Rattle.kernel_eval.specs.Outcomes.{NoMeaning, Trapped, Computation, Done, pure, halt, ◌>>◌}
 use Rattle.kernel_eval.specs.States.{Fields, State, known_scalars}
 use Rattle.seq_meaning.specs.MainCode.{HoldScalars, IsCode}
 use Rattle.seq_meaning.specs.MainValues.{main_trap}

@@ -1,5 +1,4 @@
-use Rattle.std.proofs.Common.{rules, arith, ◌≤◌, ◌<◌, ◌+◌, ◌≡◌, length, sym, ap, ◌∙◌, subst}
-use Rattle.std.specs.Prelude.{Some}
+use Rattle.std.proofs.Common.{arith, ◌≤◌, ◌<◌, ◌+◌, ◌≡◌, length, sym, ap, ◌∙◌, subst}
 use Rattle.resolved_code.specs.declared.items.ItemCode.TheVariants as code
 use Rattle.seq_meaning.specs.MainRuns.{deepest, nested}
 use Rattle.seq_meaning.proofs.NestingLemmas.{nested_if, nested_if_alone, nested_while, room_for_one_more, room_for_both, room_for_one}

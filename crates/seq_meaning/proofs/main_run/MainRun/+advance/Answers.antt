@@ -1,8 +1,8 @@
-use Rattle.std.proofs.Common.{rules, ◌≡◌, ◌<◌, ◌+◌, ℕ, suc, arith, ap, sym, ◌∙◌, subst}
-use Rattle.std.specs.Prelude.{Some, None, slice_get}
+use Rattle.std.proofs.Common.{◌≡◌, ◌<◌, ◌+◌, ℕ, suc, arith, sym, subst}
+use Rattle.std.specs.Prelude.{Some, None}
 use Rattle.seq_meaning.specs.MainRuns.{InnerBlock, KeepsBelow, GoesOn, AreFewer, block_at}
 use Rattle.seq_meaning.specs.Runs.{ScopeClosed}
-use Rattle.seq_meaning.proofs.MainAdvanceLemmas.{at_level, advances_at, keeps_at, can_at, can_inside, block_within, keeps_left, advances_around, leaves, inside_here, stands_inside}
+use Rattle.seq_meaning.proofs.MainAdvanceLemmas.{advances_at, keeps_at, can_at, can_inside, block_within, keeps_left, advances_around, leaves, stands_inside}
 use Rattle.seq_meaning.proofs.MainHereLemmas.{stands_below}
 use Rattle.seq_meaning.proofs.main_run.MainRun.+advance.Goals as goal
 

@@ -1,13 +1,8 @@
-use Rattle.std.proofs.Common.{rules, ◌≡◌, ◌<◌, suc, length, get_or, pos, slice_set, ap, sym, ◌∙◌, subst, Err, Ok, Some, None, true, false}
-use Rattle.std.proofs.lemmas.Int.{to_z-of_z}
-use Rattle.std.specs.Prelude.{ℤ}
-use mir.Val.{SFits}
-use mir.Syntax.{w64}
+use Rattle.std.proofs.Common.{◌≡◌, suc, slice_set, ap, sym, ◌∙◌, subst, Err, Ok, Some, None, true, false}
 use Rattle.std.proofs.lemmas.Result.{err_from_is_err_and}
-use Rattle.code_eval.specs.Arithmetic.{assigned_value}
-use Rattle.seq_meaning.specs.MainRuns.{Frame, MainRun, HasDone}
-use Rattle.seq_meaning.specs.MainValues.{main_number, main_truth}
-use Rattle.seq_meaning.specs.declared.main_run.MainStep.TheVariants.{Enter, Comp}
+use Rattle.seq_meaning.specs.MainRuns.{Frame, HasDone}
+use Rattle.seq_meaning.specs.MainValues.{main_truth}
+use Rattle.seq_meaning.specs.declared.main_run.MainStep.TheVariants.{Enter}
 use Rattle.seq_meaning.proofs.MainItemLemmas.{if_means, if_traps, if_has_room, first_done, second_done, neither_done}
 use Rattle.seq_meaning.proofs.main_run.MainRun.choose.Goals as goal
 

@@ -1,4 +1,4 @@
-use Rattle.std.proofs.Common.{◌≡◌, ◌<◌, ◌-◌, suc, arith, ap, sym, ◌∙◌, length, get_or, false}
+use Rattle.std.proofs.Common.{◌≡◌, suc, arith, ap, ◌∙◌, get_or, false}
 use Rattle.std.specs.Prelude.{None, Ok}
 use Rattle.seq_meaning.specs.MainRuns.{Frame}
 use Rattle.seq_meaning.proofs.MainBlockLemmas.{advances_then, end_here, can_do}
