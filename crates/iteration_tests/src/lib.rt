@@ -1,7 +1,7 @@
-//! Tests of single iterations: what each loads and stores, in order, and how it ends. The crate has no other items.
+//! Tests of single iterations: what each loads and stores, in order, and how it ends. The store that
+//! keeps a log is here for them alone.
 #![tactic(auto)]
 
-#[cfg(test)]
 mod logged;
 #[cfg(test)]
 mod runs;
