@@ -3,8 +3,8 @@ use Rattle.std.proofs.Common.{◌≡◌, List, [], ◌∷◌, ◌++◌, map, ref
 use Rattle.std.specs.Prelude.{Some, ℤ, pos}
 use Rattle.liszt_base.specs.declared.accesses.Spot.{Spot}
 use Rattle.code_eval.specs.Stores.{Entry, IsLoad, IsLogged, IsStore, HasSameSpots}
-use Rattle.iteration_tests.specs.declared.logged.Logged.{Logged}
-use Rattle.iteration_tests.specs.declared.logged.Logged.TheVariants as logged
+use Rattle.iteration_tests.specs.declared.entry.Logged.{Logged}
+use Rattle.iteration_tests.specs.declared.entry.Logged.TheVariants as logged
 use Rattle.iteration_tests.specs.Logs.{value_after_entry, value_after_log, value_in_log, entry_of, view_of}
 
 after_more : (log : List Logged) (entry : Logged) (spot : Spot) (old : ℤ)

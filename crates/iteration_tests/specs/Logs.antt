@@ -2,8 +2,8 @@
 use Rattle.std.specs.Prelude.{true, None, Some, List, [], ◌∷◌, map, ℤ, pos}
 use Rattle.liszt_base.specs.declared.accesses.Spot.{Spot}
 use Rattle.code_eval.specs.Stores.{Entry, Load, Store, StoreView, stored}
-use Rattle.iteration_tests.specs.declared.logged.Logged.{Logged}
-use Rattle.iteration_tests.specs.declared.logged.Logged.TheVariants as logged
+use Rattle.iteration_tests.specs.declared.entry.Logged.{Logged}
+use Rattle.iteration_tests.specs.declared.entry.Logged.TheVariants as logged
 
 abbrev pub value_after_entry : Logged → Spot → ℤ → ℤ
 value_after_entry (logged.Load other value) spot old = old

@@ -4,17 +4,11 @@ ghost use Rattle.std.specs.Prelude.{◌≡◌, List, ◌∷◌, ◌++◌, [], tr
 ghost use Rattle.code_eval.specs.Stores.{StoreView};
 ghost use Rattle.iteration_tests.specs.Logs.{value_after_entry, value_in_log, view_of};
 
+use crate::entry::Logged;
 use code_eval::Words;
 use liszt_base::Spot;
 use sqlite_items::Items;
 use std::process::Abort;
-
-/// A load with the value that it gave, or a store.
-#[derive(Clone, Copy, Debug, PartialEq, Eq)]
-pub enum Logged {
-    Load { spot: Spot, value: i64 },
-    Store { spot: Spot, value: i64 },
-}
 
 /// A store of all spots, by its log alone: the value of a spot is the one stored last, and at first 7.
 #[derive(Drop)]

@@ -1,6 +1,7 @@
 //! What single iterations load and store, and how they end.
 
-use crate::logged::{Logged, LoggedStore};
+use crate::entry::Logged;
+use crate::logged::LoggedStore;
 use crate::runs::{checked_of, mesh_of, run_one};
 use kernel_eval::Locals;
 use liszt_base::{Elem, Kind, NoMemory, Place, RunEnd, Spot, Trap, TrapKind};
