@@ -515,10 +515,10 @@ impl MainRun {
 
     /// What the program has printed so far.
     pub fn prints(&self) -> &[i64]
-        requires { self.now.printed ≤ length self.now.prints }
         ensures { result.now ≡ take self.now.printed self.now.prints }
     {
-        &self.prints.as_slice()[..self.printed]
+        let prints = self.prints.as_slice();
+        &prints[..self.printed.min(prints.len())]
     }
 
     /// Goes on to the next event of a program that has begun.
