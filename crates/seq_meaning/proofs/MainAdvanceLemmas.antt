@@ -1,4 +1,4 @@
--- A run of the main program goes on in an inner block.
+-- A run of the main program continues in an inner block.
 use Rattle.std.proofs.Common.{◌≡◌, ◌<◌, ◌≤◌, ℕ, suc, ◌+◌, ◌-◌, Bool, true, false, List, ◌++◌, length, drop, refl, sym, ap, subst, ◌∙◌, arith}
 use Rattle.std.proofs.lemmas.List.{length-append, length-map}
 use Rattle.std.proofs.lemmas.Option.{slice_get_within}
@@ -11,7 +11,7 @@ use Rattle.phase_types.specs.Environments.{Site, next_scalar}
 use Rattle.kernel_eval.specs.Outcomes.{Stop, Trapped, Outcome, Computation, Done, pure, halt, continue_with, ◌>>◌}
 use Rattle.kernel_eval.specs.States.{Fields, State, known_scalars}
 use Rattle.seq_meaning.specs.MainCode.{IsCode}
-use Rattle.seq_meaning.specs.MainRuns.{Frame, MainRun, InnerBlock, block_at, index_after, block_and_rest, deepest, frames_left, World, Descends, Stands, AtItem, InBlock, StandsAt, KeepsBelow, GoesOn, Ends, HasAdvanced, AreSame, AreFewer, HaveOneMore, CanAdvance, block_in, next_frame, logged}
+use Rattle.seq_meaning.specs.MainRuns.{Frame, MainRun, InnerBlock, block_at, index_after, block_and_rest, deepest, frames_left, World, Descends, Stands, AtItem, InBlock, StandsAt, KeepsBelow, HasEvent, Ends, HasAdvanced, AreSame, AreFewer, HaveOneMore, CanAdvance, block_in, next_frame, logged}
 use Rattle.seq_meaning.specs.Runs.{Event, ScopeOpened, ScopeClosed, FieldDeclared, ComprehensionReached, Progress, log_event, lift_state, modify_state, after_scope, all_or_nothing, comprehension, main_meaning}
 use Rattle.seq_meaning.specs.declared.main_run.MainStep.{MainStep}
 use Rattle.seq_meaning.specs.declared.main_run.MainStep.TheVariants.{Enter, Leave, Declare, Comp, Over}
@@ -101,7 +101,7 @@ module _ {w : World} {r : MainRun} {level : ℕ} {outside : List ℕ} {items : L
         ∙ ap (λ answer. (after_outcome w inside_here.before inside_here.inner.block.scope inside_here.site inside_here.rest (record { after = (inside_here.block p).after; answer = answer })).answer) none);
   }
 
-  -- the block goes on, and the block around it with it
+  -- the block has an event, and so has the block around it
   module _ (after : MainRun) (keeps : KeepsBelow (suc level) r after) where
     abbrev around : Computation Progress Done → Computation Progress Done
     around rest = block_and_rest w inside_here.before inside_here.inner.block.scope rest inside_here.site inside_here.rest
@@ -117,9 +117,9 @@ module _ {w : World} {r : MainRun} {level : ℕ} {outside : List ℕ} {items : L
         (subst (λ (inner : InnerBlock). Stands w after.frames after.depth (suc level) (known_scalars inside_here.before) inner.block.items known rest) (sym same_inner) stands)
         inside_here.known_is inside_here.descends inside_here.code
 
-    goes_around : (event : Event) (Changes : Fields → Fields → Type 0) → GoesOn w event Changes (suc level) (known_scalars inside_here.before) inner.block.items p inside_here.block after
-        → GoesOn w event Changes level outside items p remaining after
-    goes_around event Changes g = record {
+    event_around : (event : Event) (Changes : Fields → Fields → Type 0) → HasEvent w event Changes (suc level) (known_scalars inside_here.before) inner.block.items p inside_here.block after
+        → HasEvent w event Changes level outside items p remaining after
+    event_around event Changes g = record {
       later = g.later;
       rest = around g.rest;
       is = remaining_is (g.rest (logged event g.later)) g.is;
@@ -135,9 +135,9 @@ module _ {w : World} {r : MainRun} {level : ℕ} {outside : List ℕ} {items : L
 
     pub advances_around : (step : MainStep) → HasAdvanced w (suc level) (known_scalars inside_here.before) inner.block.items p inside_here.block (Some step) after
         → HasAdvanced w level outside items p remaining (Some step) after
-    advances_around (Enter scope) g = goes_around (ScopeOpened scope) AreSame g
-    advances_around (Leave scope) g = goes_around (ScopeClosed scope) AreFewer g
-    advances_around (Declare field value) g = goes_around (FieldDeclared field value) (HaveOneMore w field value) g
+    advances_around (Enter scope) g = event_around (ScopeOpened scope) AreSame g
+    advances_around (Leave scope) g = event_around (ScopeClosed scope) AreFewer g
+    advances_around (Declare field value) g = event_around (FieldDeclared field value) (HaveOneMore w field value) g
     advances_around (Comp k) g = record {
       later = g.later;
       rest = around g.rest;
@@ -156,7 +156,7 @@ module _ {w : World} {r : MainRun} {level : ℕ} {outside : List ℕ} {items : L
 
     -- the block ends
     pub leaves : Ends w (known_scalars inside_here.before) p inside_here.block after
-        → GoesOn w (ScopeClosed inner.block.scope) AreFewer level outside items p remaining (record after { depth = suc level; frames = frames_left after.frames level frame inner.is_repeated })
+        → HasEvent w (ScopeClosed inner.block.scope) AreFewer level outside items p remaining (record after { depth = suc level; frames = frames_left after.frames level frame inner.is_repeated })
     leaves g = record {
       later = later;
       rest = main_meaning w.mesh w.turns inside_here.site inside_here.rest;

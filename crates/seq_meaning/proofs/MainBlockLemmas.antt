@@ -10,7 +10,7 @@ use Rattle.phase_types.specs.Environments.{Site}
 use Rattle.kernel_eval.specs.Outcomes.{Computation, Done, pure}
 use Rattle.kernel_eval.specs.States.{Fields, known_scalars}
 use Rattle.seq_meaning.specs.MainCode.{IsCode, NoCode}
-use Rattle.seq_meaning.specs.MainRuns.{Frame, MainRun, World, Stands, AtItem, InBlock, StandsAt, KeepsBelow, GoesOn, Ends, Continues, HasAdvanced, HasDoneItem, AreSame, AreFewer, HaveOneMore, CanAdvance, CanDo, next_frame}
+use Rattle.seq_meaning.specs.MainRuns.{Frame, MainRun, World, Stands, AtItem, InBlock, StandsAt, KeepsBelow, HasEvent, Ends, Continues, HasAdvanced, HasDoneItem, AreSame, AreFewer, HaveOneMore, CanAdvance, CanDo, next_frame}
 use Rattle.seq_meaning.specs.Runs.{Event, ScopeOpened, ScopeClosed, FieldDeclared, Progress, main_meaning}
 use Rattle.seq_meaning.specs.declared.main_run.MainStep.{MainStep}
 use Rattle.seq_meaning.specs.declared.main_run.MainStep.TheVariants.{Enter, Leave, Declare, Comp, Over}
@@ -46,14 +46,14 @@ continues_then h g = record { later = g.later; rest = g.rest; is = h.is ∙ g.is
 
 module _ {w : World} {r mid : MainRun} {level : ℕ} {outside : List ℕ} {items : List ItemCode} {p : Progress} {remaining : Computation Progress Done}
     (h : Continues w level outside items p remaining r mid) (after : MainRun) where
-  goes_then : (event : Event) (Changes : Fields → Fields → Type 0) → GoesOn w event Changes level outside items h.later h.rest after → GoesOn w event Changes level outside items p remaining after
-  goes_then event Changes g = record { later = g.later; rest = g.rest; is = h.is ∙ g.is; path = g.path ∙ h.path; fields = subst (λ fields. Changes fields g.later.state.fields) h.fields g.fields; stands = g.stands }
+  event_then : (event : Event) (Changes : Fields → Fields → Type 0) → HasEvent w event Changes level outside items h.later h.rest after → HasEvent w event Changes level outside items p remaining after
+  event_then event Changes g = record { later = g.later; rest = g.rest; is = h.is ∙ g.is; path = g.path ∙ h.path; fields = subst (λ fields. Changes fields g.later.state.fields) h.fields g.fields; stands = g.stands }
 
   pub advances_then : (result : Option MainStep) → HasAdvanced w level outside items h.later h.rest result after → HasAdvanced w level outside items p remaining result after
   advances_then None g = record { later = g.later; is = h.is ∙ g.is; path = g.path ∙ h.path; fields = g.fields ∙ h.fields; has_state = g.has_state; new = g.new; known = g.known; bound = g.bound; descends = g.descends }
-  advances_then (Some (Enter scope)) g = goes_then (ScopeOpened scope) AreSame g
-  advances_then (Some (Leave scope)) g = goes_then (ScopeClosed scope) AreFewer g
-  advances_then (Some (Declare field value)) g = goes_then (FieldDeclared field value) (HaveOneMore w field value) g
+  advances_then (Some (Enter scope)) g = event_then (ScopeOpened scope) AreSame g
+  advances_then (Some (Leave scope)) g = event_then (ScopeClosed scope) AreFewer g
+  advances_then (Some (Declare field value)) g = event_then (FieldDeclared field value) (HaveOneMore w field value) g
   advances_then (Some (Comp k)) g = record { later = g.later; rest = g.rest; c = g.c; found = g.found; is = h.is ∙ g.is; path = g.path ∙ h.path; fields = g.fields ∙ h.fields; stands = g.stands; has_state = g.has_state; room = g.room }
   advances_then (Some (Over (EndTrap trap))) g = record { later = g.later; is = h.is ∙ g.is; path = g.path ∙ h.path; prints = g.prints }
   advances_then (Some (Over EndDone)) g = g

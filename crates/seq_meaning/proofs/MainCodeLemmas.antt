@@ -38,8 +38,9 @@ use Rattle.code_eval.specs.Stops.{NoMeaning}
 use Rattle.kernel_eval.specs.Meaning.{Value, NumberValue, TruthValue, number_of, truth_of, trap, checked_number, checked_division, operator_result, is_decided, negation, complement, comparison_result, global_read, scalar_read, meaning, links_meaning, number_in, truth_in}
 use Rattle.kernel_eval.specs.Outcomes.{Outcome, pure, continue_with, and_then, if_then_else}
 use Rattle.kernel_eval.specs.States.{State, EvaluationState, scalar_value, main_evaluation}
+use Rattle.kernel_eval.specs.HeldFields.{HoldsScalars}
 use Rattle.kernel_eval.proofs.ResolvingLemmas.{IfOk, ok_then, ok_weaken, in_sequence}
-use Rattle.seq_meaning.specs.MainCode.{HoldScalars, IsAnswerOf, IsNumberCode, IsTruthCode}
+use Rattle.seq_meaning.specs.MainCode.{IsAnswerOf, IsNumberCode, IsTruthCode}
 use Rattle.seq_meaning.specs.MainValues.{Answer, ◌>>=◌, number_or_trap, number_rest, main_number, number_operand, truth_step, truth_rest, main_truth, truth_operand}
 use Rattle.seq_meaning.proofs.MainValueLemmas.{constant_is, scalar_is, neg_is, chain_is, not_is, truth_chain_is, compare_is}
 
@@ -62,7 +63,7 @@ any_ok (Ok a) = tt
 any_ok (Err fault) = tt
 
 module _ (mesh : MeshLists) (environment : Environment) (names : Names) (agrees : Agrees names environment) (of_main : (name : List ℕ) → IsOfMain (resolution_of names name))
-    (s : State) (scalars : List ℤ) (held : HoldScalars scalars s) where
+    (s : State) (scalars : List ℤ) (held : HoldsScalars s scalars) where
   abbrev m : EvaluationState
   m = main_evaluation s
 
@@ -403,7 +404,7 @@ module _ (mesh : MeshLists) (environment : Environment) (names : Names) (agrees 
 
 module _ (environment : Environment) (names : Names) (agrees : Agrees names environment) (of_main : (name : List ℕ) → IsOfMain (resolution_of names name)) where
   abbrev AlwaysAnswers : Expression → TypedCode → Type 0
-  AlwaysAnswers e operand = (mesh : MeshLists) (s : State) (scalars : List ℤ) (held : HoldScalars scalars s) → Answers mesh environment names agrees of_main s scalars held e operand
+  AlwaysAnswers e operand = (mesh : MeshLists) (s : State) (scalars : List ℤ) (held : HoldsScalars s scalars) → Answers mesh environment names agrees of_main s scalars held e operand
 
   always : (e : Expression) (r : Result (TypedCode × Accesses) ProgramFault) → r ≡ resolved_expression names None e → IfOk (λ operand. AlwaysAnswers e operand.0) r
   always e (Ok operand) is = λ mesh s scalars held.

@@ -24,12 +24,13 @@ use Rattle.phase_types.proofs.PartLemmas.{part_at, next_part, prefix_of_prefix, 
 use Rattle.kernel_eval.specs.Outcomes.{Stop, Trapped, NoMeaning, Outcome, Computation, Done, halt, skip, continue_with, take_turn, if_then_else, ◌>>=◌, ◌>>◌}
 use Rattle.kernel_eval.specs.States.{scalar_value, with_scalar_value, known_scalars, main_evaluation}
 use Rattle.kernel_eval.specs.Meaning.{assigned_value, trap, number_in, truth_in}
-use Rattle.seq_meaning.specs.MainCode.{HoldScalars, IsNumberCode, IsTruthCode, IsCode}
-use Rattle.seq_meaning.specs.MainRuns.{Frame, MainRun, World, Descends, Stands, AtItem, InBlock, block_and_rest, block_in, block_at, index_after, nested, deepest, HasState, StandsAt, GoesOn, Reaches, Traps, Continues, HaveOneMore, AreSame, logged, next_frame, KeepsBelow, CanDo, HasDone}
+use Rattle.seq_meaning.specs.MainCode.{IsNumberCode, IsTruthCode, IsCode}
+use Rattle.seq_meaning.specs.MainRuns.{Frame, MainRun, World, Descends, Stands, AtItem, InBlock, block_and_rest, block_in, block_at, index_after, nested, deepest, HasState, StandsAt, HasEvent, Reaches, Traps, Continues, HaveOneMore, AreSame, logged, next_frame, KeepsBelow, CanDo, HasDone}
 use Rattle.seq_meaning.specs.declared.main_run.MainStep.TheVariants.{Enter, Declare, Comp}
 use Rattle.seq_meaning.specs.MainValues.{main_trap, main_number, main_truth}
 use Rattle.seq_meaning.specs.Runs.{Progress, ScopeOpened, in_scope, program_turns, item_meaning, assign_main_name, assign_main_scalar, print_number, in_program, FieldDeclared, main_meaning, number_at, truth_at, modify_state, log_event, with_field, with_scalar}
 use Rattle.seq_meaning.proofs.MainHereLemmas.{Here, here, code_here, at_next, keeps_below, scalars_after_item, FieldHere, field_here, VarHere, var_here, AssignHere, assign_here, PrintHere, print_here, ForHere, for_here, WhileHere, while_here, ElseHere, IfHere, if_here, out_if, out_while, block_descends}
+use Rattle.kernel_eval.specs.HeldFields.{HoldsScalars}
 use Rattle.kernel_eval.proofs.LoopLemmas.{loop_is}
 use Rattle.seq_meaning.proofs.MainCodeLemmas.{got}
 use Rattle.seq_meaning.proofs.MainPreservationLemmas.{fewer_kept, main_keeps, scope_keeps, truth_keeps}
@@ -39,7 +40,7 @@ use Rattle.seq_meaning.proofs.MainStepLemmas.{set_here, set_there, length_set, d
 
 -- an expression first
 pub number_first : (w : World) (scalars : List ℤ) (p : Progress) (site : Site) (e : Expression) (x : NumberCode) (next : ℤ → Computation Progress Done) (rest remaining : Computation Progress Done)
-    → remaining ≡ ((number_at w.mesh site e >>= next) >> rest) → IsNumberCode site.environment e x → HoldScalars scalars p.state → (remaining p).answer ≢ Err NoMeaning
+    → remaining ≡ ((number_at w.mesh site e >>= next) >> rest) → IsNumberCode site.environment e x → HoldsScalars p.state scalars → (remaining p).answer ≢ Err NoMeaning
     → IsEvaluated (main_number scalars x) (λ n. next n >> rest) remaining p
 number_first w scalars p site e x next rest remaining is value held meaning =
     subst (λ remaining. (remaining p).answer ≢ Err NoMeaning → IsEvaluated (main_number scalars x) (λ n. next n >> rest) remaining p) (sym is)
@@ -48,7 +49,7 @@ number_first w scalars p site e x next rest remaining is value held meaning =
     (value.answer w.mesh p.state scalars held) meaning) meaning
 
 pub truth_first : (w : World) (scalars : List ℤ) (p : Progress) (site : Site) (e : Expression) (x : TruthCode) (next : Bool → Computation Progress Done) (rest remaining : Computation Progress Done)
-    → remaining p ≡ ((truth_at w.mesh site e >>= next) >> rest) p → IsTruthCode site.environment e x → HoldScalars scalars p.state → (remaining p).answer ≢ Err NoMeaning
+    → remaining p ≡ ((truth_at w.mesh site e >>= next) >> rest) p → IsTruthCode site.environment e x → HoldsScalars p.state scalars → (remaining p).answer ≢ Err NoMeaning
     → IsEvaluated (main_truth scalars x) (λ b. next b >> rest) remaining p
 truth_first w scalars p site e x next rest remaining is value held meaning =
     let g = evaluated (truth_at w.mesh site e) next rest p (truth_in w.mesh site.environment e (main_evaluation p.state)).answer (main_truth scalars x)
@@ -112,8 +113,8 @@ module _ (w : World) (r : MainRun) (level : ℕ) (outside : List ℕ) (items : L
     field_value = number_first w r.scalars p here_now.site f.init x declared_next field_rest remaining
         (here_now.is ∙ ap (main_meaning w.mesh w.turns here_now.site) f.is) f.value s.has_state.scalars s.has_meaning
 
-    pub field_step : (n : ℤ) → main_number r.scalars x ≡ Ok n → GoesOn w (FieldDeclared field n) (HaveOneMore w field n) level outside items p remaining after_move
-    field_step n e = subst (λ number. GoesOn w (FieldDeclared number n) (HaveOneMore w number n) level outside items p remaining after_move) (sym f.number) record {
+    pub field_step : (n : ℤ) → main_number r.scalars x ≡ Ok n → HasEvent w (FieldDeclared field n) (HaveOneMore w field n) level outside items p remaining after_move
+    field_step n e = subst (λ number. HasEvent w (FieldDeclared number n) (HaveOneMore w number n) level outside items p remaining after_move) (sym f.number) record {
       later = later;
       rest = field_rest;
       is = field_value.value n e;
@@ -175,7 +176,7 @@ module _ (w : World) (r : MainRun) (level : ℕ) (outside : List ℕ) (items : L
       stands = moved (record after_move { scalars = slice_set r.scalars scalar n }) refl refl later (after_item here_now.site (MainVar v.place v.name v.at v.init)) v.rest (next_scalar here_now.site ∷ here_now.new)
           v.code (ap (λ known. next_scalar here_now.site ∷ known) here_now.known_is) (one_more_descends, here_now.descends)
           (record {
-            scalars = subst (λ number. HoldScalars (slice_set r.scalars number n) later.state) (sym v.number) (holds_new r.scalars p.state (next_scalar here_now.site) n (subst (λ number. number < length r.scalars) v.number scalar_below) s.has_state.scalars);
+            scalars = subst (λ number. HoldsScalars later.state (slice_set r.scalars number n)) (sym v.number) (holds_new r.scalars p.state (next_scalar here_now.site) n (subst (λ number. number < length r.scalars) v.number scalar_below) s.has_state.scalars);
             prints = s.has_state.prints;
             turns = s.has_state.turns;
             each_scalar = length_set r.scalars scalar n ∙ s.has_state.each_scalar;
@@ -424,7 +425,7 @@ module _ (w : World) (r : MainRun) (level : ℕ) (outside : List ℕ) (items : L
     if_descends : Descends (next_scalar after_if) (known_scalars p.state)
     if_descends = scalars_after_item here_now.site whole_if (known_scalars p.state) here_now.descends
 
-    pub first_step : main_truth r.scalars x ≡ Ok true → GoesOn w (ScopeOpened first.scope) AreSame level outside items p remaining (after_opening false)
+    pub first_step : main_truth r.scalars x ≡ Ok true → HasEvent w (ScopeOpened first.scope) AreSame level outside items p remaining (after_opening false)
     first_step e = record {
       later = p;
       rest = opened;
@@ -440,7 +441,7 @@ module _ (w : World) (r : MainRun) (level : ℕ) (outside : List ℕ) (items : L
       is : remaining p ≡ block_and_rest w p.state first.scope first_block after_if i.rest (logged (ScopeOpened first.scope) p)
       is = if_value.value true e ∙ ap (λ scope. block_and_rest w p.state scope first_block after_if i.rest (logged (ScopeOpened scope) p)) (sym i.scope)
 
-    pub second_step : (block : BlockCode) → second ≡ Some block → main_truth r.scalars x ≡ Ok false → GoesOn w (ScopeOpened block.scope) AreSame level outside items p remaining (after_opening true)
+    pub second_step : (block : BlockCode) → second ≡ Some block → main_truth r.scalars x ≡ Ok false → HasEvent w (ScopeOpened block.scope) AreSame level outside items p remaining (after_opening true)
     second_step block there e = record {
       later = p;
       rest = opened;
@@ -552,7 +553,7 @@ module _ (w : World) (r : MainRun) (level : ℕ) (outside : List ℕ) (items : L
     spent_trap e none = turned 0 none e
 
     pub turn_step : (turns : ℕ) → r.turns ≡ suc turns → main_truth r.scalars x ≡ Ok true
-        → GoesOn w (ScopeOpened body.scope) AreSame level outside items p remaining (record (after_opening false) { turns = turns })
+        → HasEvent w (ScopeOpened body.scope) AreSame level outside items p remaining (record (after_opening false) { turns = turns })
     turn_step turns some e = record {
       later = taken turns;
       rest = opened;

@@ -12,8 +12,9 @@ use Rattle.kernel_eval.specs.Meaning.{Value, NumberValue, TruthValue, ElementVal
 use Rattle.kernel_eval.specs.Outcomes.{Stop, Trapped, NoMeaning, Outcome, halt, continue_with, ◌>>=◌, ◌>>◌}
 use Rattle.kernel_eval.specs.States.{State, EvaluationState, scalar_value, with_scalar_value, known_scalars, main_evaluation}
 use Rattle.kernel_eval.proofs.MainExpressionLemmas.{nothing_changed}
+use Rattle.kernel_eval.specs.HeldFields.{HoldsScalars}
 use Rattle.kernel_eval.proofs.ReductionLemmas.{updated, not_updated}
-use Rattle.seq_meaning.specs.MainCode.{HoldScalars, IsAnswerOf}
+use Rattle.seq_meaning.specs.MainCode.{IsAnswerOf}
 use Rattle.seq_meaning.specs.MainRuns.{Descends}
 use Rattle.seq_meaning.specs.MainValues.{Answer}
 use Rattle.seq_meaning.specs.Runs.{Progress, with_scalar}
@@ -106,7 +107,7 @@ drop_front front back n e = rw e (go front) where
   go [] = refl
   go (x ∷ front) = go front
 
-pub holds_new : (scalars : List ℤ) (s : State) (number : ℕ) (value : ℤ) → number < length scalars → HoldScalars scalars s → HoldScalars (slice_set scalars number value) (with_scalar number value s)
+pub holds_new : (scalars : List ℤ) (s : State) (number : ℕ) (value : ℤ) → number < length scalars → HoldsScalars s scalars → HoldsScalars (with_scalar number value s) (slice_set scalars number value)
 holds_new scalars s number value l h = record { holds = λ other v e. go other v e (cases_Bool (number == other)) } where
   go : (other : ℕ) (v : ℤ) → scalar_value (with_scalar number value s) other ≡ Some v → ((number == other) ≡ true) ⊎ ((number == other) ≡ false) → slice_get (slice_set scalars number value) other ≡ Some v
   go other v e (inl is) =
@@ -183,8 +184,8 @@ evaluated first next rest p of_tree of_code is (inr same) meaning = record {
 }
 
 -- an assigned scalar
-pub holds_assigned : (scalars : List ℤ) (s : State) (number : ℕ) (value old : ℤ) → scalar_value s number ≡ Some old → HoldScalars scalars s
-    → HoldScalars (slice_set scalars number value) (with_scalar_value number value s)
+pub holds_assigned : (scalars : List ℤ) (s : State) (number : ℕ) (value old : ℤ) → scalar_value s number ≡ Some old → HoldsScalars s scalars
+    → HoldsScalars (with_scalar_value number value s) (slice_set scalars number value)
 holds_assigned scalars s number value old is h = record { holds = λ other v e. go other v e (cases_Bool (other == number)) } where
   go : (other : ℕ) (v : ℤ) → scalar_value (with_scalar_value number value s) other ≡ Some v → ((other == number) ≡ true) ⊎ ((other == number) ≡ false)
       → slice_get (slice_set scalars number value) other ≡ Some v

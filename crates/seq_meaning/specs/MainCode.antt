@@ -1,5 +1,5 @@
 -- The code of a main program, item by item. This project's own.
-use Rattle.std.specs.Prelude.{◌≡◌, ◌⊎◌, ℕ, Bool, true, false, Some, None, List, [], ◌∷◌, slice_get, ℤ, Err}
+use Rattle.std.specs.Prelude.{◌≡◌, ◌⊎◌, ℕ, Bool, true, false, Some, None, List, [], ◌∷◌, ℤ, Err}
 use Rattle.liszt_base.specs.MeshLists.{MeshLists}
 use Rattle.liszt_base.specs.declared.answers.Place.{Place}
 use Rattle.liszt_base.specs.declared.elements.Kind.{Kind}
@@ -12,23 +12,20 @@ use Rattle.resolved_code.specs.declared.items.ItemCode.TheVariants as code
 use Rattle.phase_types.specs.Environments.{Environment, ScalarName, binding_of, Part, IsPrefix, Site, next_field, next_scalar, next_comprehension, next_scope, block_start, after_block, has_else_block, after_item, after_main}
 use Rattle.code_eval.specs.Stops.{NoMeaning}
 use Rattle.kernel_eval.specs.Meaning.{number_in, truth_in}
-use Rattle.kernel_eval.specs.States.{State, scalar_value, main_evaluation}
+use Rattle.kernel_eval.specs.HeldFields.{HoldsScalars}
+use Rattle.kernel_eval.specs.States.{State, main_evaluation}
 use Rattle.seq_meaning.specs.MainValues.{Answer, main_number, main_truth}
-
--- numbers in places hold the scalars of a state
-pub record HoldScalars (scalars : List ℤ) (s : State) : Type 0 where
-  pub holds : (number : ℕ) (value : ℤ) → scalar_value s number ≡ Some value → slice_get scalars number ≡ Some value
 
 -- THE CODE OF AN EXPRESSION gives the answer of the expression, wherever that has a meaning.
 abbrev pub IsAnswerOf : {A : Type 0} → Answer A → Answer A → Type 0
 IsAnswerOf of_tree of_code = (of_tree ≡ Err NoMeaning) ⊎ (of_tree ≡ of_code)
 
 pub record IsNumberCode (environment : Environment) (e : Expression) (x : NumberCode) : Type 0 where
-  pub answer : (mesh : MeshLists) (s : State) (scalars : List ℤ) → HoldScalars scalars s
+  pub answer : (mesh : MeshLists) (s : State) (scalars : List ℤ) → HoldsScalars s scalars
       → IsAnswerOf (number_in mesh environment e (main_evaluation s)).answer (main_number scalars x)
 
 pub record IsTruthCode (environment : Environment) (e : Expression) (x : TruthCode) : Type 0 where
-  pub answer : (mesh : MeshLists) (s : State) (scalars : List ℤ) → HoldScalars scalars s
+  pub answer : (mesh : MeshLists) (s : State) (scalars : List ℤ) → HoldsScalars s scalars
       → IsAnswerOf (truth_in mesh environment e (main_evaluation s)).answer (main_truth scalars x)
 
 -- THE CODE OF ITEMS at a site of a program with these parts

@@ -17,8 +17,9 @@ use Rattle.phase_types.specs.declared.info.FieldInfo.{FieldInfo}
 use Rattle.phase_types.specs.declared.state.CheckedProgram.{CheckedProgram}
 use Rattle.phase_types.specs.Environments.{parts_of, Comprehension, Part, Site, fields_in, scalars_in, comprehensions_in, first_declared, next_scalar}
 use Rattle.kernel_eval.specs.Outcomes.{NoMeaning, Trapped, Computation, Done, pure, halt, ◌>>◌}
+use Rattle.kernel_eval.specs.HeldFields.{HoldsScalars}
 use Rattle.kernel_eval.specs.States.{Fields, State, known_scalars}
-use Rattle.seq_meaning.specs.MainCode.{HoldScalars, IsCode}
+use Rattle.seq_meaning.specs.MainCode.{IsCode}
 use Rattle.seq_meaning.specs.MainValues.{main_trap}
 use Rattle.seq_meaning.specs.Runs.{Event, ScopeOpened, ScopeClosed, FieldDeclared, ComprehensionReached, Progress, log_event, lift_state, modify_state, after_scope, all_or_nothing, comprehension, main_meaning, empty, run}
 pub use Rattle.seq_meaning.specs.declared.main_run.Frame.{Frame}
@@ -50,7 +51,7 @@ abbrev pub deepest : List ItemCode → ℕ
 deepest items = greatest (map nested items)
 
 -- THE BLOCK IN AN ITEM that is open: of an `if` the first one or the one after `else`; of a `while` its body, after which the `while`
--- is met again
+-- is repeated
 pub record InnerBlock : Type 0 where
   pub block : BlockCode
   pub is_repeated : Bool
@@ -98,7 +99,7 @@ pub data Stands (w : World) (frames : List Frame) (depth : ℕ) : ℕ → List �
 
 -- what the run has of a state
 pub record HasState (w : World) (r : MainRun) (s : State) : Type 0 where
-  pub scalars : HoldScalars r.scalars s
+  pub scalars : HoldsScalars s r.scalars
   pub prints : s.prints ≡ take r.printed r.prints
   pub turns : s.turns ≡ r.turns
   pub each_scalar : length r.scalars ≡ length (scalars_in w.parts)
@@ -121,8 +122,8 @@ pub record KeepsBelow (level : ℕ) (r after : MainRun) : Type 0 where
 abbrev pub logged : Event → Progress → Progress
 logged event p = (log_event event p).after
 
--- THE RUN GOES ON to an event, from a progress and what remains then: what remains does the event and what remains afterwards.
-pub record GoesOn (w : World) (event : Event) (Changes : Fields → Fields → Type 0) (level : ℕ) (outside : List ℕ) (items : List ItemCode) (p : Progress)
+-- THE RUN HAS AN EVENT, from a progress and what remains then: what remains does the event and what remains afterwards.
+pub record HasEvent (w : World) (event : Event) (Changes : Fields → Fields → Type 0) (level : ℕ) (outside : List ℕ) (items : List ItemCode) (p : Progress)
     (remaining : Computation Progress Done) (after : MainRun) : Type 0 where
   pub later : Progress
   pub rest : Computation Progress Done
@@ -131,7 +132,7 @@ pub record GoesOn (w : World) (event : Event) (Changes : Fields → Fields → T
   pub fields : Changes p.state.fields later.state.fields
   pub stands : StandsAt w after level outside items (logged event later) rest
 
--- it reaches a comprehension, after which it can go on from every state that the comprehension leaves
+-- it reaches a comprehension, after which it can continue from every state that the comprehension leaves
 pub record Reaches (w : World) (k : ℕ) (level : ℕ) (outside : List ℕ) (items : List ItemCode) (p : Progress) (remaining : Computation Progress Done)
     (after : MainRun) : Type 0 where
   pub later : Progress
@@ -181,15 +182,15 @@ pub record HaveOneMore (w : World) (field : ℕ) (value : ℤ) (fields later : F
 
 abbrev pub HasAdvanced : World → ℕ → List ℕ → List ItemCode → Progress → Computation Progress Done → Option MainStep → MainRun → Type 0
 HasAdvanced w level outside items p remaining None after = Ends w outside p remaining after
-HasAdvanced w level outside items p remaining (Some (Enter scope)) after = GoesOn w (ScopeOpened scope) AreSame level outside items p remaining after
-HasAdvanced w level outside items p remaining (Some (Leave scope)) after = GoesOn w (ScopeClosed scope) AreFewer level outside items p remaining after
+HasAdvanced w level outside items p remaining (Some (Enter scope)) after = HasEvent w (ScopeOpened scope) AreSame level outside items p remaining after
+HasAdvanced w level outside items p remaining (Some (Leave scope)) after = HasEvent w (ScopeClosed scope) AreFewer level outside items p remaining after
 HasAdvanced w level outside items p remaining (Some (Declare field value)) after =
-    GoesOn w (FieldDeclared field value) (HaveOneMore w field value) level outside items p remaining after
+    HasEvent w (FieldDeclared field value) (HaveOneMore w field value) level outside items p remaining after
 HasAdvanced w level outside items p remaining (Some (Comp k)) after = Reaches w k level outside items p remaining after
 HasAdvanced w level outside items p remaining (Some (Over (EndTrap trap))) after = Traps w trap p remaining after
 HasAdvanced w level outside items p remaining (Some (Over EndDone)) after = ⊥
 
--- ONE ITEM is done, and the run goes on with the next one; or there is an event, or a trap
+-- ONE ITEM is done, and the run continues with the next one; or there is an event, or a trap
 pub record Continues (w : World) (level : ℕ) (outside : List ℕ) (items : List ItemCode) (p : Progress) (remaining : Computation Progress Done) (r after : MainRun)
     : Type 0 where
   pub later : Progress
@@ -270,8 +271,8 @@ HasNext w items p remaining (Over EndDone) after = Ends w [] p remaining after
 HasNext w items p remaining step after = HasAdvanced w 0 [] items p remaining (Some step) after
 
 -- what `next` asks: the run is before its first event, or can advance
-abbrev pub CanGoOn : CheckedProgram → MainRun → Type 0
-CanGoOn checked r = ((r.depth ≡ 0) × IsPreparedRun checked r) ⊎ CanAdvance r 0 checked.items
+abbrev pub CanContinue : CheckedProgram → MainRun → Type 0
+CanContinue checked r = ((r.depth ≡ 0) × IsPreparedRun checked r) ⊎ CanAdvance r 0 checked.items
 
 -- the first event opens the outermost scope
 pub record HasOpened (mesh : MeshLists) (program : Main) (turns : ℕ) (items : List ItemCode) (step : MainStep) (after : MainRun) : Type 0 where

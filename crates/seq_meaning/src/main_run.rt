@@ -13,7 +13,7 @@ ghost use Rattle.phase_types.specs.declared.state.CheckedProgram.{CheckedProgram
 ghost use Rattle.kernel_eval.specs.Outcomes.{Computation, Done};
 ghost use Rattle.resolved_code.specs.declared.items.ItemCode.{out-ItemCode};
 ghost use Rattle.resolved_code.specs.declared.items.ItemCode.TheVariants as Code;
-ghost use Rattle.seq_meaning.specs.MainRuns.{CanAdvance, CanDo, CanGoOn, HasDone, HasAdvanced, HasDoneItem, HasBegunRun, HasNext, HasOpened, HasPrinted, HasTakenTurn, IsAt, IsPreparedRun, KeepsBelow, StandsAt, World, block_at, block_in, deepest, frames_left, nested, next_frame};
+ghost use Rattle.seq_meaning.specs.MainRuns.{CanAdvance, CanDo, CanContinue, HasDone, HasAdvanced, HasDoneItem, HasBegunRun, HasNext, HasOpened, HasPrinted, HasTakenTurn, IsAt, IsPreparedRun, KeepsBelow, StandsAt, World, block_at, block_in, deepest, frames_left, nested, next_frame};
 ghost use Rattle.seq_meaning.specs.Runs.{Progress};
 
 use crate::values::{main_trap, number, scalar_at, truth};
@@ -44,8 +44,8 @@ pub enum MainStep {
     Over(RunEnd),
 }
 
-/// A run of a main program: its scalars by their numbers, what it printed, the turns that remain, and where it stands. The
-/// frames of the open blocks are the first ones, that of the outermost block first.
+/// A run of a main program: its scalars by their numbers, what it printed, the turns that remain, and the frames of
+/// the open blocks, that of the outermost one first, of which there are `depth`.
 #[derive(Debug, Drop)]
 pub struct MainRun {
     pub scalars: Items<i64>,
@@ -118,7 +118,7 @@ fn next_of(frame: Frame, count: usize) -> Frame
     }
 }
 
-/// The block of an item that can be open, and whether the item is met again after it.
+/// The block of an item that can be open, and whether the item is repeated after it.
 fn inner_block(item: &ItemCode, after_else: bool) -> Option<(&BlockCode, bool)>
     ensures block { option_map (λ inner. record { block = inner.0.now; is_repeated = inner.1 })
         result ≡ block_in (out-ItemCode item.now) after_else }
@@ -143,7 +143,7 @@ fn inner_block(item: &ItemCode, after_else: bool) -> Option<(&BlockCode, bool)>
     }
 }
 
-/// The block that is open in the item of a frame, and whether the item is met again after it.
+/// The block that is open in the item of a frame, and whether the item is repeated after it.
 fn block_of(items: &[ItemCode], frame: Frame) -> Option<(&BlockCode, bool)>
     ensures block { option_map (λ inner. record { block = inner.0.now; is_repeated = inner.1 })
         result ≡ block_at items.now frame }
@@ -161,7 +161,7 @@ impl MainRun {
         self.frames.as_slice()[level]
     }
 
-    /// Goes on to the next item of the block at a level.
+    /// Continues with the next item of the block at a level.
     fn move_on(&mut self, level: usize, next: Frame)
         requires { level < length self.old.frames }
         ensures { self.new ≡ record self.old { frames = slice_set self.old.frames level next } }
@@ -302,7 +302,7 @@ impl MainRun {
         Ok(None)
     }
 
-    /// Opens a block of an `if`, or goes on behind it.
+    /// Opens a block of an `if`, or continues after it.
     fn choose(
         &mut self,
         items: &[ItemCode],
@@ -332,7 +332,7 @@ impl MainRun {
         }
     }
 
-    /// Opens the body of a `while` for a turn, or goes on behind it.
+    /// Opens the body of a `while` for a turn, or continues after it.
     fn repeat(
         &mut self,
         items: &[ItemCode],
@@ -402,7 +402,7 @@ impl MainRun {
         }
     }
 
-    /// Goes through the innermost block, up to an event or to its end.
+    /// Does the items of the innermost block, up to an event or to its end.
     fn run_items(&mut self, items: &[ItemCode], level: usize) -> Option<MainStep>
         requires can { CanAdvance self.old level items.now }
         requires innermost { suc level ≡ self.old.depth }
@@ -434,7 +434,7 @@ impl MainRun {
         self.depth - 1
     }
 
-    /// Goes on from where the run stands in a block at a level, up to an event or to the end of the block.
+    /// Continues a block at a level, up to an event or to the end of the block.
     fn advance(&mut self, items: &[ItemCode], level: usize) -> Option<MainStep>
         requires { CanAdvance self.old level items.now }
         ensures advanced { (w : World) (outside : List ℕ) (p : Progress)
@@ -521,8 +521,8 @@ impl MainRun {
         &prints[..self.printed.min(prints.len())]
     }
 
-    /// Goes on to the next event of a program that has begun.
-    fn go_on(&mut self, c: &Checked) -> MainStep
+    /// The next event of a program after its first one.
+    fn next_event(&mut self, c: &Checked) -> MainStep
         requires { CanAdvance self.old 0 c.now.items }
         ensures { (mesh : MeshLists) (program : Main) (turns : ℕ) (p : Progress)
             → (at : IsAt mesh program turns c.now.items p self.old)
@@ -555,13 +555,13 @@ impl MainRun {
 
     /// The next event of a program that has begun: the first one opens the outermost scope.
     pub fn next(&mut self, c: &Checked) -> MainStep
-        requires { CanGoOn c.now self.old }
+        requires { CanContinue c.now self.old }
         ensures opened { (mesh : MeshLists) (program : Main) (turns : ℕ)
             → IsMesh (length mesh.points) (corner_lists mesh)
             → checked_program program ≡ Ok c.now
             → HasBegunRun turns self.old → IsPreparedRun c.now self.old
             → HasOpened mesh program turns c.now.items result self.new }
-        ensures gone_on { (mesh : MeshLists) (program : Main) (turns : ℕ) (p : Progress)
+        ensures continued { (mesh : MeshLists) (program : Main) (turns : ℕ) (p : Progress)
             → (at : IsAt mesh program turns c.now.items p self.old)
             → HasNext (record { mesh = mesh; turns = turns; parts = parts_of program })
             c.now.items p at.remaining result self.new }
@@ -570,6 +570,6 @@ impl MainRun {
             self.open();
             return MainStep::Enter(0);
         }
-        self.go_on(c)
+        self.next_event(c)
     }
 }

@@ -1,6 +1,6 @@
 use Rattle.std.proofs.Common.{◌≡◌, ◌<◌, ◌+◌, ℕ, suc, arith, sym, subst}
 use Rattle.std.specs.Prelude.{Some, None}
-use Rattle.seq_meaning.specs.MainRuns.{InnerBlock, KeepsBelow, GoesOn, AreFewer, block_at}
+use Rattle.seq_meaning.specs.MainRuns.{InnerBlock, KeepsBelow, HasEvent, AreFewer, block_at}
 use Rattle.seq_meaning.specs.Runs.{ScopeClosed}
 use Rattle.seq_meaning.proofs.MainAdvanceLemmas.{advances_at, keeps_at, can_at, can_inside, block_within, keeps_left, advances_around, leaves, stands_inside}
 use Rattle.seq_meaning.proofs.MainHereLemmas.{stands_below}
@@ -41,7 +41,7 @@ returns-clause-advanced t c = λ w outside p remaining s.
     let deep : suc c.args.level < c.args.self.now.depth = omega (arith, c.innermost.ensures, c.if-level-innermost.false) in
     let inner : InnerBlock = record { block = c.in_ok-block.block.now; is_repeated = c.in_ok-block.is_repeated } in
     let found : block_at c.args.items.now c.frame-frame.result ≡ Some inner = sym c.in_ok-block.ensures.block in
-    subst (GoesOn w (ScopeClosed c.in_ok-block.block.now.scope) AreFewer c.args.level outside c.args.items.now p remaining) (sym c.leave.ensures)
+    subst (HasEvent w (ScopeClosed c.in_ok-block.block.now.scope) AreFewer c.args.level outside c.args.items.now p remaining) (sym c.leave.ensures)
     (leaves s deep c.frame-frame.result c.frame-frame.ensures inner found c.in_ok-block.ensures.deeper c.advance.new.self
     (keeps_at c.args.self.now c.advance.new.self c.args.level (c.args.level + 1) (plus_one c.args.level) c.advance.ensures.keeps)
     (advances_at c.args.self.now c.advance.new.self c.args.level (c.args.level + 1) c.in_ok-block.block.now.items c.as_slice.result.now None (plus_one c.args.level) c.as_slice.ensures c.in_default.ensures.advanced

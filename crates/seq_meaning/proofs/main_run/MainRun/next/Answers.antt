@@ -7,5 +7,5 @@ pub returns-then-self-eq0-clause-opened : goal.returns-then-self-eq0-clause-open
 returns-then-self-eq0-clause-opened c = λ mesh program turns is_mesh is begun prepared.
     opened mesh program turns c.args.c.now c.args.self.now c.open.new.self is_mesh is begun prepared c.open.ensures
 
-pub returns-then-self-eq0-clause-gone_on : goal.returns-then-self-eq0-clause-gone_on
-returns-then-self-eq0-clause-gone_on c = λ mesh program turns p at. let l = stands_below at.stands.stands in absurd (omega (arith, l, c.if-self-eq0.true))
+pub returns-then-self-eq0-clause-continued : goal.returns-then-self-eq0-clause-continued
+returns-then-self-eq0-clause-continued c = λ mesh program turns p at. let l = stands_below at.stands.stands in absurd (omega (arith, l, c.if-self-eq0.true))
