@@ -1,5 +1,5 @@
 -- Reductions determine the scalars, and the value of one scalar is folded with its partial reductions.
-use Rattle.std.proofs.Common.{◌≡◌, ℕ, ◌==◌, List, [], ◌∷◌, ◌++◌, map, refl, sym, ap, subst, ◌∙◌, inl, inr, arith}
+use Rattle.std.proofs.Common.{◌≡◌, ◌<◌, ℕ, ◌==◌, List, [], ◌∷◌, ◌++◌, length, get_or, pos, map, refl, sym, ap, subst, ◌∙◌, inl, inr, arith}
 use Rattle.std.proofs.Common.{eqb-true, eq-eqb, ne_eqb}
 use Rattle.std.proofs.lemmas.Bool.{cases_Bool}
 use Rattle.std.proofs.lemmas.Int.{ints, clamps}
@@ -7,7 +7,7 @@ use Rattle.std.proofs.lemmas.Nat.{and_comm, and_mask}
 use Rattle.std.proofs.Math.Nat.{mod-eq_of_lt}
 use Rattle.std.specs.Int.Bits.{or_zero_l, xor_zero_l}
 use Rattle.std.proofs.lemmas.Bool.Decides.{nat_tests, eqb_tells}
-use Rattle.std.proofs.lemmas.List.{append-nil, append_assoc}
+use Rattle.std.proofs.lemmas.List.{append-nil, append_assoc, get_or-set_same, get_or-set_other, length-set}
 use Rattle.std.specs.Prelude.{Option, Some, None, if◌then◌else◌, ℤ}
 use Rattle.std.specs.List.{AllByRecursion, filter, fold as fold_list}
 use Rattle.std.specs.Option.{option_map}
@@ -21,7 +21,7 @@ use Rattle.liszt_tree.specs.declared.tree.How.TheVariants.{Set, Fold, Less}
 use Rattle.phase_types.specs.Environments.{Comprehension, lookup}
 use Rattle.phase_types.specs.Typed.{ComprehensionFits}
 use Rattle.phase_types.specs.Walk.{OfScalar, mode_by, mode_in}
-use Rattle.kernel_eval.specs.Iterations.{iteration_start, iteration, reduced_value, partial}
+use Rattle.kernel_eval.specs.Iterations.{iteration_start, iteration, partials_after, partials_after_fold, reduced_value, partial}
 use Rattle.kernel_eval.specs.Meaning.{operand, assigned_value, with_scalar_fold}
 use Rattle.kernel_eval.specs.Preservation.{FoldsByTheMode, ChangesNothing, scalars_after_fold, scalars_after}
 use Rattle.kernel_eval.specs.States.{map_update, State, ScalarFold, EvaluationState, scalar_value, with_state, with_scalar_value}
@@ -136,23 +136,31 @@ after_folds scalar (folded ∷ folds) scalars =
     ∙ ap (λ value. scalar_after scalar value folds) (changed folded scalar (lookup (λ number. number == folded.scalar) scalars) scalars refl)
 
 -- a scalar that the comprehension does not reduce
-not_reduced : (c : Comprehension) (scalar : ℕ) → ChangesNothing (mode_in c (OfScalar scalar)) → (folds : List ScalarFold) → AllByRecursion (FoldsByTheMode c) folds
+abbrev pub IsUnreduced : Comprehension → ℕ → Type 0
+IsUnreduced c scalar = (op : Op) → mode_in c (OfScalar scalar) ≡ Some (Reduce op) → ⊥
+
+not_reduced : (c : Comprehension) (scalar : ℕ) → IsUnreduced c scalar → (folds : List ScalarFold) → AllByRecursion (FoldsByTheMode c) folds
     → (value : Option ℤ) → scalar_after scalar value folds ≡ value
 not_reduced c scalar none [] all value = refl
 not_reduced c scalar none (folded ∷ folds) all value = elim (eqb_tells scalar folded.scalar) [
-  | inl h ↦ absurd (subst ChangesNothing (ap (λ scalar. mode_in c (OfScalar scalar)) h.1 ∙ all.0) none)
+  | inl h ↦ absurd (none folded.op (ap (λ scalar. mode_in c (OfScalar scalar)) h.1 ∙ all.0))
   | inr h ↦ rw h.0 (not_reduced c scalar none folds all.1 value)
 ]
 
-pub unreduced_stays : (mesh : MeshLists) (c : Comprehension) (turns : ℕ) (s : State) (id scalar : ℕ) → ComprehensionFits c → ChangesNothing (mode_in c (OfScalar scalar))
+pub unreduced_is_unchanged : (mesh : MeshLists) (c : Comprehension) (turns : ℕ) (s : State) (id scalar : ℕ) → ComprehensionFits c → IsUnreduced c scalar
     → scalar_value (iteration mesh c turns s id).after.state scalar ≡ scalar_value s scalar
-unreduced_stays mesh c turns s id scalar fits none =
+unreduced_is_unchanged mesh c turns s id scalar fits none =
     ap (lookup (λ number. number == scalar)) (iteration_scalars mesh c turns s id fits)
     ∙ after_folds scalar (iteration mesh c turns s id).after.folds s.scalars
     ∙ not_reduced c scalar none (iteration mesh c turns s id).after.folds ((iteration_in_modes mesh c turns s id fits).1 tt) (scalar_value s scalar)
 
+pub unreduced_stays : (mesh : MeshLists) (c : Comprehension) (turns : ℕ) (s : State) (id scalar : ℕ) → ComprehensionFits c → ChangesNothing (mode_in c (OfScalar scalar))
+    → scalar_value (iteration mesh c turns s id).after.state scalar ≡ scalar_value s scalar
+unreduced_stays mesh c turns s id scalar fits none =
+    unreduced_is_unchanged mesh c turns s id scalar fits (λ op e. subst ChangesNothing e none)
+
 -- THE PARTIAL REDUCTIONS of a scalar that the comprehension reduces by an operator
-abbrev values_of : ℕ → List ScalarFold → List ℤ
+abbrev pub values_of : ℕ → List ScalarFold → List ℤ
 values_of scalar folds = map (λ f. f.value) (filter (λ f. f.scalar == scalar) folds)
 
 op_of : (op other : Op) → Some (Reduce op) ≡ Some (Reduce other) → op ≡ other
@@ -185,19 +193,74 @@ identity_stays Xor a h = ap value (xor_zero_l (word a)) ∙ value_of_word a h
 identity_stays Min a h = omega (arith, ints, clamps, h)
 identity_stays Max a h = omega (arith, ints, clamps, h)
 
-from_identity : (op : Op) (old : ℤ) (values : List ℤ) → InRange old → fold_list (fold op) old values ≡ fold op old (fold_list (fold op) (identity_of op) values)
+pub from_identity : (op : Op) (old : ℤ) (values : List ℤ) → InRange old → fold_list (fold op) old values ≡ fold op old (fold_list (fold op) (identity_of op) values)
 from_identity op old values h =
     ap (λ start. fold_list (fold op) start values) (sym (commutes op old (identity_of op) ∙ identity_stays op old h))
     ∙ pulled op old (identity_of op) values
+
+value_after_iteration : (mesh : MeshLists) (c : Comprehension) (turns : ℕ) (s : State) (id scalar : ℕ) (op : Op) (old : ℤ) → ComprehensionFits c
+    → mode_in c (OfScalar scalar) ≡ Some (Reduce op) → scalar_value s scalar ≡ Some old
+    → scalar_value (iteration mesh c turns s id).after.state scalar ≡ Some (fold_list (fold op) old (values_of scalar (iteration mesh c turns s id).after.folds))
+value_after_iteration mesh c turns s id scalar op old fits is e =
+    let folds : List ScalarFold = (iteration mesh c turns s id).after.folds in
+    ap (lookup (λ number. number == scalar)) (iteration_scalars mesh c turns s id fits)
+    ∙ after_folds scalar folds s.scalars
+    ∙ ap (λ value. scalar_after scalar value folds) e
+    ∙ all_folded c scalar op is folds ((iteration_in_modes mesh c turns s id fits).1 tt) old
 
 pub folded_partial : (mesh : MeshLists) (c : Comprehension) (turns : ℕ) (s : State) (id scalar : ℕ) (op : Op) (old : ℤ) → ComprehensionFits c
     → mode_in c (OfScalar scalar) ≡ Some (Reduce op) → scalar_value s scalar ≡ Some old → InRange old
     → scalar_value (iteration mesh c turns s id).after.state scalar ≡ option_map (fold op old) (partial mesh c turns s id scalar)
 folded_partial mesh c turns s id scalar op old fits is e h =
     let folds : List ScalarFold = (iteration mesh c turns s id).after.folds in
-    ap (lookup (λ number. number == scalar)) (iteration_scalars mesh c turns s id fits)
-    ∙ after_folds scalar folds s.scalars
-    ∙ ap (λ value. scalar_after scalar value folds) e
-    ∙ all_folded c scalar op is folds ((iteration_in_modes mesh c turns s id fits).1 tt) old
+    value_after_iteration mesh c turns s id scalar op old fits is e
     ∙ ap Some (from_identity op old (values_of scalar folds) h)
     ∙ sym (ap (λ mode. option_map (fold op old) (reduced_value mode (values_of scalar folds))) is)
+
+values_same : (scalar : ℕ) (folded : ScalarFold) (folds : List ScalarFold) → folded.scalar ≡ scalar → values_of scalar (folded ∷ folds) ≡ folded.value ∷ values_of scalar folds
+values_same scalar folded folds e = rw (eq-eqb folded.scalar scalar e) refl
+
+values_other : (scalar : ℕ) (folded : ScalarFold) (folds : List ScalarFold) → (folded.scalar ≡ scalar → ⊥) → values_of scalar (folded ∷ folds) ≡ values_of scalar folds
+values_other scalar folded folds apart = rw (ne_eqb folded.scalar scalar apart) refl
+
+-- PARTIALS BY THE NUMBERS of scalars: that of a scalar is folded with the operands of its reductions
+partial_after_folds : (c : Comprehension) (scalar : ℕ) (op : Op) → mode_in c (OfScalar scalar) ≡ Some (Reduce op) → (folds : List ScalarFold)
+    → AllByRecursion (FoldsByTheMode c) folds → (partials : List ℤ) → scalar < length partials
+    → get_or (partials_after partials folds) scalar (pos 0) ≡ fold_list (fold op) (get_or partials scalar (pos 0)) (values_of scalar folds)
+partial_after_folds c scalar op is [] all partials below = refl
+partial_after_folds c scalar op is (folded ∷ folds) all partials below =
+    let later = partial_after_folds c scalar op is folds all.1 (partials_after_fold partials folded)
+        (omega (arith, below, length-set partials folded.scalar (fold folded.op (get_or partials folded.scalar (pos 0)) folded.value))) in
+    elim (eqb_tells scalar folded.scalar) [
+      | inl h ↦
+          let same : folded.op ≡ op = op_of folded.op op (sym all.0 ∙ ap (λ scalar. mode_in c (OfScalar scalar)) (sym h.1) ∙ is) in
+          let set : get_or (partials_after_fold partials folded) scalar (pos 0) ≡ fold op (get_or partials scalar (pos 0)) folded.value =
+          ap (λ number. get_or (partials_after_fold partials folded) number (pos 0)) h.1
+          ∙ get_or-set_same partials folded.scalar (fold folded.op (get_or partials folded.scalar (pos 0)) folded.value) (pos 0) (subst (λ number. number < length partials) h.1 below)
+          ∙ ap (λ op. fold op (get_or partials folded.scalar (pos 0)) folded.value) same
+          ∙ ap (λ number. fold op (get_or partials number (pos 0)) folded.value) (sym h.1) in
+          later ∙ ap (λ start. fold_list (fold op) start (values_of scalar folds)) set
+          ∙ ap (fold_list (fold op) (get_or partials scalar (pos 0))) (sym (values_same scalar folded folds (sym h.1)))
+      | inr h ↦
+          later
+          ∙ ap (λ start. fold_list (fold op) start (values_of scalar folds))
+          (get_or-set_other partials folded.scalar scalar (fold folded.op (get_or partials folded.scalar (pos 0)) folded.value) (pos 0) h.1)
+          ∙ ap (fold_list (fold op) (get_or partials scalar (pos 0))) (sym (values_other scalar folded folds (λ e. h.1 (sym e))))
+    ]
+
+-- an iteration folds the value of a scalar and its partial with the same operands
+pub record HasFolded (op : Op) (old : ℤ) (partials : List ℤ) (scalar : ℕ) (value : Option ℤ) (after : List ℤ) : Type 0 where
+  pub operands : List ℤ
+  pub value_is : value ≡ Some (fold_list (fold op) old operands)
+  pub partial_is : get_or after scalar (pos 0) ≡ fold_list (fold op) (get_or partials scalar (pos 0)) operands
+
+pub iteration_folds_both : (mesh : MeshLists) (c : Comprehension) (turns : ℕ) (s : State) (id scalar : ℕ) (op : Op) (old : ℤ) (partials : List ℤ) → ComprehensionFits c
+    → mode_in c (OfScalar scalar) ≡ Some (Reduce op) → scalar_value s scalar ≡ Some old → scalar < length partials
+    → HasFolded op old partials scalar (scalar_value (iteration mesh c turns s id).after.state scalar) (partials_after partials (iteration mesh c turns s id).after.folds)
+iteration_folds_both mesh c turns s id scalar op old partials fits is e below =
+    let folds : List ScalarFold = (iteration mesh c turns s id).after.folds in
+    record {
+      operands = values_of scalar folds;
+      value_is = value_after_iteration mesh c turns s id scalar op old fits is e;
+      partial_is = partial_after_folds c scalar op is folds ((iteration_in_modes mesh c turns s id fits).1 tt) partials below;
+    }

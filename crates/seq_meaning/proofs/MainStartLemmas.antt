@@ -12,17 +12,18 @@ use Rattle.phase_types.specs.Environments.{start}
 use Rattle.phase_types.proofs.CheckedLemmas.{checked_is_typed, checked_parts}
 use Rattle.kernel_eval.specs.Iterations.{end_of}
 use Rattle.kernel_eval.specs.Outcomes.{Stop, NoMeaning, Done}
-use Rattle.seq_meaning.specs.MainRuns.{MainRun, Frame, AtItem, IsPreparedRun, HasBegunRun, HasOpened}
+use Rattle.seq_meaning.specs.MainRuns.{MainRun, Frame, AtItem, KeepsShape, IsPreparedRun, HasBegunRun, HasOpened}
 use Rattle.seq_meaning.specs.Runs.{main_meaning, run}
 use Rattle.seq_meaning.specs.declared.main_run.MainStep.TheVariants.{Enter}
 use Rattle.seq_meaning.proofs.ItemCodeLemmas.{checked_is_code}
+use Rattle.seq_meaning.proofs.MainHereLemmas.{keeps_shape}
 use Rattle.seq_meaning.proofs.MainStepLemmas.{set_here, length_set}
 use Rattle.seq_meaning.proofs.TypedRunLemmas.{run_ends}
 
 abbrev first_frame : Frame
 first_frame = record { index = 0; after_else = false }
 
-has_an_end : (answer : Result Done Stop) → is_some (end_of answer) ≡ true → answer ≢ Err NoMeaning
+pub has_an_end : (answer : Result Done Stop) → is_some (end_of answer) ≡ true → answer ≢ Err NoMeaning
 has_an_end answer e none = false_or_true (sym (ap (λ answer. is_some (end_of answer)) none) ∙ e) where
   false_or_true : false ≡ true → ⊥
   false_or_true e = absurd cc
@@ -51,3 +52,14 @@ opened mesh program turns checked r after is_mesh is begun prepared same =
         };
       };
     }
+
+-- it remains prepared
+pub still_prepared : {level : ℕ} {r after : MainRun} (checked : CheckedProgram) → KeepsShape level r after → IsPreparedRun checked r → IsPreparedRun checked after
+still_prepared checked keeps prepared = record {
+  scalars = keeps.scalars ∙ prepared.scalars;
+  prints = keeps.prints ∙ prepared.prints;
+  frames = omega (arith, prepared.frames, keeps.count);
+}
+
+pub opened_shape : (r after : MainRun) → after ≡ record r { frames = slice_set r.frames 0 first_frame; depth = 1 } → KeepsShape 0 r after
+opened_shape r after is = subst (KeepsShape 0 r) (sym is) (keeps_shape 0 r (record r { frames = slice_set r.frames 0 first_frame; depth = 1 }) first_frame refl refl refl)

@@ -21,10 +21,10 @@ module _ (path : List Entry) where
   abbrev earlier : Progress → Progress
   earlier p = with_earlier_path path p
 
-  event_commutes : (event : Event) → Commutes earlier (log_event event)
+  pub event_commutes : (event : Event) → Commutes earlier (log_event event)
   event_commutes event = record { commuted = λ p. rw (append_assoc path p.path (record { event = event; state = p.state } ∷ [])) refl }
 
-  state_commutes : {A : Type 0} (computation : State → Outcome State A) → Commutes earlier (lift_state computation)
+  pub state_commutes : {A : Type 0} (computation : State → Outcome State A) → Commutes earlier (lift_state computation)
   state_commutes computation = record { commuted = λ p. refl }
 
   program_commutes : {A : Type 0} (computation : EvaluationState → Outcome EvaluationState A) → Commutes earlier (in_program computation)
@@ -36,7 +36,7 @@ module _ (path : List Entry) where
   truth_commutes : (mesh : MeshLists) (site : Site) (e : Expression) → Commutes earlier (truth_at mesh site e)
   truth_commutes mesh site e = program_commutes (truth_in mesh site.environment e)
 
-  change_commutes : (change : State → State) → Commutes earlier (modify_state change)
+  pub change_commutes : (change : State → State) → Commutes earlier (modify_state change)
   change_commutes change = record { commuted = λ p. refl }
 
   scalar_commutes : (how : How) (n : ℤ) (number : ℕ) (value : Option ℤ) (p : Progress)

@@ -12,14 +12,14 @@ use Rattle.code_eval.specs.Acts.{Act, is_spot, value_by, value_after}
 use Rattle.code_eval.specs.Stores.{HasActed}
 use Rattle.kernel_eval.specs.Preservation.{value_after_acts}
 use Rattle.kernel_eval.specs.States.{Fields, value_in}
-use Rattle.seq_meaning.specs.SeqStores.{field_words, StoreWords, stored_value, declared_value, has_spot, HasSpotsOf, HoldsFields, view_of}
+use Rattle.seq_meaning.specs.FieldStores.{field_words, StoreWords, stored_value, declared_value, has_spot, HasSpotsOf, HoldsFields, view_of}
 
 replicate_found : (n : ℕ) (value : ℤ) (i : ℕ) (x : ℤ) → slice_get (replicate n value) i ≡ Some x → (i < n) × (value ≡ x)
 replicate_found zero value i x e = absurd cc
 replicate_found (suc n) value zero x e = (omega arith, cc)
 replicate_found (suc n) value (suc i) x e = let p = replicate_found n value i x e in (omega (arith, p.0), p.1)
 
-some_found : {A : Type 0} (o : Option A) → is_some o ≡ true → (x : A) × (o ≡ Some x)
+pub some_found : {A : Type 0} (o : Option A) → is_some o ≡ true → (x : A) × (o ≡ Some x)
 some_found None e = absurd cc
 some_found (Some x) e = (x, refl)
 

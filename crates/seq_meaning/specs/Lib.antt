@@ -1,6 +1,8 @@
+pub mod FieldStores
 pub mod Internal
 pub mod MainCode
 pub mod MainRuns
 pub mod MainValues
+pub mod Paths
 pub mod Runs
-pub mod SeqStores
+pub mod SequentialRuns

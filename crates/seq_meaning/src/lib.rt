@@ -3,12 +3,16 @@
 #![tactic(auto)]
 
 mod cases;
+mod field_store;
 pub mod laws;
 mod main_run;
 mod seq_store;
+mod sequential_run;
 mod store_cases;
 pub mod store_laws;
 mod values;
 
+pub use field_store::{FieldRange, FieldStore};
 pub use main_run::{Frame, MainRun, MainStep};
-pub use seq_store::{FieldRange, SeqStore};
+pub use seq_store::SeqStore;
+pub use sequential_run::run_seq;

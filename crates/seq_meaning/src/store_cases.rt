@@ -7,7 +7,7 @@ ghost use Rattle.liszt_tree.specs.Trees.{degrees};
 ghost use Rattle.phase_types.specs.Environments.{fields_of};
 ghost use Rattle.mesh_topology.specs.Internal.Meshes.{one_cell, two_cells};
 ghost use Rattle.seq_meaning.specs.Internal.Cases.{heat};
-ghost use Rattle.seq_meaning.specs.SeqStores.{declared_value, filled, has_spot, prepared_store, ranges_from, stored_value, word_index, words_of};
+ghost use Rattle.seq_meaning.specs.FieldStores.{declared_value, filled, has_spot, prepared_store, ranges_from, stored_value, word_index, words_of};
 
 /// A field of vertices has as many words as there are vertices; a program without fields has none.
 fn words_of_fields()

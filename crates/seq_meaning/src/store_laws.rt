@@ -10,8 +10,8 @@ ghost use Rattle.code_eval.specs.Acts.{Act, is_spot};
 ghost use Rattle.code_eval.specs.Stores.{HasActed, HasSameSpots};
 ghost use Rattle.kernel_eval.specs.Preservation.{value_after_acts};
 ghost use Rattle.kernel_eval.specs.States.{Fields, value_in};
-ghost use Rattle.seq_meaning.specs.SeqStores.{HasSpotsOf, HoldsFields, IsLaidOut, StoreWords, declared_value, stored_value, view_of, word_index};
-ghost use Rattle.seq_meaning.specs.declared.seq_store.FieldRange.{FieldRange as RangeOf};
+ghost use Rattle.seq_meaning.specs.FieldStores.{HasSpotsOf, HoldsFields, IsLaidOut, StoreWords, declared_value, stored_value, view_of, word_index};
+ghost use Rattle.seq_meaning.specs.declared.field_store.FieldRange.{FieldRange as RangeOf};
 
 /// Two different spots have different words.
 pub fn spots_have_their_own_words()

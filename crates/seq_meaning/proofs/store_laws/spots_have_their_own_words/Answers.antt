@@ -1,4 +1,4 @@
-use Rattle.seq_meaning.proofs.SeqStoreLemmas.{different_words}
+use Rattle.seq_meaning.proofs.FieldStoreLemmas.{different_words}
 use Rattle.seq_meaning.proofs.store_laws.spots_have_their_own_words.Goals as goal
 
 pub returns : goal.returns

@@ -1,4 +1,4 @@
-use Rattle.seq_meaning.proofs.SeqStoreLemmas.{spots_after_declaration, still_spots}
+use Rattle.seq_meaning.proofs.FieldStoreLemmas.{spots_after_declaration, still_spots}
 use Rattle.seq_meaning.proofs.store_laws.stores_keep_their_spots.Goals as goal
 
 pub returns-clause-steps : goal.returns-clause-steps

@@ -1,8 +1,8 @@
 use Rattle.std.proofs.Common.{◌≡◌, ap, ◌∙◌, rules, length, List, replicate, pos, ℤ}
 use Rattle.std.proofs.lemmas.List.{length-replicate}
-use Rattle.seq_meaning.specs.SeqStores.{ranges_from, words_of as WordsOf}
-use Rattle.seq_meaning.proofs.SeqStoreLemmas.{ranges_laid_out, store_spots}
-use Rattle.seq_meaning.proofs.seq_store.SeqStore.prepare.Goals as goal
+use Rattle.seq_meaning.specs.FieldStores.{ranges_from, words_of as WordsOf}
+use Rattle.seq_meaning.proofs.FieldStoreLemmas.{ranges_laid_out, store_spots}
+use Rattle.seq_meaning.proofs.field_store.FieldStore.prepare.Goals as goal
 
 pub invariant_of-result : goal.invariant_of-result
 invariant_of-result c =

@@ -13,7 +13,7 @@ use Rattle.phase_types.specs.Environments.{first_declared, is_built_in}
 use Rattle.code_eval.specs.Acts.{is_spot}
 use Rattle.code_eval.specs.Stores.{StoreView}
 use Rattle.kernel_eval.specs.States.{Fields, value_in}
-use Rattle.seq_meaning.specs.declared.seq_store.FieldRange.{FieldRange}
+use Rattle.seq_meaning.specs.declared.field_store.FieldRange.{FieldRange}
 
 -- THE WORDS of declared fields: one for each element of each field
 abbrev pub field_words : MeshLists → FieldInfo → ℕ

@@ -1,6 +1,6 @@
 use Rattle.std.proofs.Common.{◌≡◌, length}
-use Rattle.seq_meaning.specs.SeqStores.{filled}
-use Rattle.seq_meaning.proofs.seq_store.fill.Given as goal
+use Rattle.seq_meaning.specs.FieldStores.{filled}
+use Rattle.seq_meaning.proofs.field_store.fill.Given as goal
 
 abbrev pub invariant-loop-offset : goal.invariant-loop-offset
 invariant-loop-offset l =

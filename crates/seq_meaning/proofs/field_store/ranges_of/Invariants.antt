@@ -1,7 +1,7 @@
 use Rattle.std.proofs.Common.{◌≡◌, ◌≤◌, ◌+◌, ◌++◌, drop}
 use Rattle.liszt_base.specs.Limits.{word_limit}
-use Rattle.seq_meaning.specs.SeqStores.{ranges_from, words_of as WordsOf}
-use Rattle.seq_meaning.proofs.seq_store.ranges_of.Given as goal
+use Rattle.seq_meaning.specs.FieldStores.{ranges_from, words_of as WordsOf}
+use Rattle.seq_meaning.proofs.field_store.ranges_of.Given as goal
 
 abbrev pub invariant-loop-info : goal.invariant-loop-info
 invariant-loop-info l =

@@ -1,7 +1,7 @@
 use Rattle.std.proofs.Common.{◌≡◌, Some, sym, ap, ◌∙◌, w64, to_z, of_z, to_z-of_z}
-use Rattle.seq_meaning.specs.SeqStores.{range_of as RangeOf}
-use Rattle.seq_meaning.proofs.SeqStoreLemmas.{values_after_declaration}
-use Rattle.seq_meaning.proofs.seq_store.SeqStore.declare.Goals as goal
+use Rattle.seq_meaning.specs.FieldStores.{range_of as RangeOf}
+use Rattle.seq_meaning.proofs.FieldStoreLemmas.{values_after_declaration}
+use Rattle.seq_meaning.proofs.field_store.FieldStore.declare.Goals as goal
 
 pub returns-clause-values : goal.returns-clause-values
 returns-clause-values c spot =

@@ -1,7 +1,7 @@
 use Rattle.std.proofs.Common.{◌≡◌, Some, sym, ap, ◌∙◌, w64, to_z, of_z, to_z-of_z}
-use Rattle.seq_meaning.specs.SeqStores.{word_index}
-use Rattle.seq_meaning.proofs.SeqStoreLemmas.{values_after_store}
-use Rattle.seq_meaning.proofs.seq_store.SeqStore.set.Goals as goal
+use Rattle.seq_meaning.specs.FieldStores.{word_index}
+use Rattle.seq_meaning.proofs.FieldStoreLemmas.{values_after_store}
+use Rattle.seq_meaning.proofs.field_store.FieldStore.set.Goals as goal
 
 pub returns-clause-values : goal.returns-clause-values
 returns-clause-values c other =

@@ -11,8 +11,8 @@ use Rattle.phase_types.specs.declared.info.FieldInfo.{FieldInfo}
 use Rattle.phase_types.specs.Environments.{first_declared, is_built_in}
 use Rattle.code_eval.specs.Acts.{is_spot}
 use Rattle.code_eval.specs.Stores.{HasSameSpots}
-use Rattle.seq_meaning.specs.declared.seq_store.FieldRange.{FieldRange}
-use Rattle.seq_meaning.specs.SeqStores.{HasSpotsOf, has_element, has_spot, view_of, field_words, words_of, ranges_from, StoreWords, IsStoreOf, IsLaidOut, range_of, index_in, word_index, stored_value, HasSameRanges, filled, declared_value, value_after_store}
+use Rattle.seq_meaning.specs.declared.field_store.FieldRange.{FieldRange}
+use Rattle.seq_meaning.specs.FieldStores.{HasSpotsOf, has_element, has_spot, view_of, field_words, words_of, ranges_from, StoreWords, IsStoreOf, IsLaidOut, range_of, index_in, word_index, stored_value, HasSameRanges, filled, declared_value, value_after_store}
 
 -- LISTS
 within : {A : Type 0} (xs : List A) (i : ℕ) → i < length xs → (x : A) × (slice_get xs i ≡ Some x)
