@@ -16,6 +16,7 @@ ghost use Rattle.phase_types.specs.Walk.{OfField, mode_in};
 ghost use Rattle.kernel_eval.specs.Preservation.{ChangesNothing, Commutes, field_values, loop_unfolded};
 ghost use Rattle.kernel_eval.specs.States.{State, field_lengths, known_scalars};
 ghost use Rattle.seq_meaning.specs.MainCode.{IsCode};
+ghost use Rattle.seq_meaning.specs.Paths.{Extends};
 ghost use Rattle.seq_meaning.specs.Runs.{Entry, Progress, comprehension, in_program, in_scope, item_meaning, iterations, main_meaning, program_turns, run_end, truth_at, with_earlier_path};
 
 /// A comprehension changes no field that it does not write or reduce, and does not change the turns of the main program.
@@ -44,6 +45,12 @@ pub fn iterations_leave_prints_and_parts()
 pub fn the_path_is_never_read()
     ensures { (mesh : MeshLists) (turns : ℕ) (site : Site) (program : Main) (path : List Entry)
         → Commutes (with_earlier_path path) (main_meaning mesh turns site program) }
+{}
+
+/// No program takes anything back from the path: afterwards it is the path at entry and then further entries.
+pub fn later_paths_extend_earlier_ones()
+    ensures { (mesh : MeshLists) (turns : ℕ) (site : Site) (program : Main) (p : Progress)
+        → Extends p.path (main_meaning mesh turns site program p).after.path }
 {}
 
 /// No program increases the number of turns, and a `while` of the main program unfolds: its test; if that is true, a turn, its block,
