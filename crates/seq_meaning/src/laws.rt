@@ -1,5 +1,6 @@
 //! Laws of the definitions, each the contract of a function that does nothing.
 
+ghost use Rattle.std.specs.List.{AllByRecursion};
 ghost use Rattle.std.specs.Prelude.{◌≡◌, ◌≤◌, ℕ, List, Ok, is_some, length, true};
 ghost use Rattle.liszt_base.specs.MeshLists.{MeshLists};
 ghost use Rattle.liszt_base.specs.Corners.{IsMesh};
@@ -16,8 +17,8 @@ ghost use Rattle.phase_types.specs.Walk.{OfField, mode_in};
 ghost use Rattle.kernel_eval.specs.Preservation.{ChangesNothing, Commutes, field_values, loop_unfolded};
 ghost use Rattle.kernel_eval.specs.States.{State, field_lengths, known_scalars};
 ghost use Rattle.seq_meaning.specs.MainCode.{IsCode};
-ghost use Rattle.seq_meaning.specs.Paths.{Extends};
-ghost use Rattle.seq_meaning.specs.Runs.{Entry, Progress, comprehension, in_program, in_scope, item_meaning, iterations, main_meaning, program_turns, run_end, truth_at, with_earlier_path};
+ghost use Rattle.seq_meaning.specs.Paths.{DescendingFields, EntryFits, Extends};
+ghost use Rattle.seq_meaning.specs.Runs.{Entry, Progress, comprehension, in_program, in_scope, item_meaning, iterations, main_meaning, path_of, program_turns, run, run_end, truth_at, with_earlier_path};
 
 /// A comprehension changes no field that it does not write or reduce, and does not change the turns of the main program.
 pub fn comprehensions_preserve_other_fields()
@@ -78,4 +79,12 @@ pub fn typed_programs_end()
 pub fn checked_programs_are_code()
     ensures { (program : Main) (checked : Parts) → checked_program program ≡ Ok checked
         → IsCode (parts_of program) start program checked.items }
+{}
+
+/// Each entry of the path of a typed program fits it, and the numbers of the fields descend in the last state too.
+pub fn entries_fit_their_program()
+    ensures entries { (mesh : MeshLists) (program : Main) (turns : ℕ) → IsTyped program
+        → AllByRecursion (EntryFits mesh program) (path_of mesh program turns) }
+    ensures fields { (mesh : MeshLists) (program : Main) (turns : ℕ) → IsTyped program
+        → DescendingFields (run mesh program turns).after.state.fields }
 {}
