@@ -10,6 +10,7 @@ pub mod MainValueLemmas
 pub mod MainStartLemmas
 pub mod MainStepLemmas
 pub mod NestingLemmas
+pub mod OutermostFieldLemmas
 pub mod PathEntryLemmas
 pub mod PathExtensionLemmas
 pub mod PathLemmas

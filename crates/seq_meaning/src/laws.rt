@@ -1,19 +1,22 @@
 //! Laws of the definitions, each the contract of a function that does nothing.
 
 ghost use Rattle.std.specs.List.{AllByRecursion};
-ghost use Rattle.std.specs.Prelude.{◌≡◌, ◌≤◌, ℕ, List, Ok, is_some, length, true};
+ghost use Rattle.std.specs.Prelude.{◌+◌, ◌≡◌, ◌≤◌, ℕ, List, Ok, Some, is_some, length, slice_get, true};
 ghost use Rattle.liszt_base.specs.MeshLists.{MeshLists};
 ghost use Rattle.liszt_base.specs.Corners.{IsMesh};
 ghost use Rattle.mesh_topology.specs.Elements.{corner_lists};
 ghost use Rattle.liszt_base.specs.declared.answers.Place.{Place};
+ghost use Rattle.liszt_base.specs.declared.answers.RunEnd.TheVariants.{Done as IsDone};
 ghost use Rattle.liszt_base.specs.declared.answers.TrapKind.TheVariants.{Spent};
 ghost use Rattle.liszt_tree.specs.Tree.{Expression, Main, MainWhile};
 ghost use Rattle.kernel_eval.specs.Meaning.{trap};
 ghost use Rattle.phase_types.specs.Checked.{checked_program};
+ghost use Rattle.phase_types.specs.declared.info.FieldInfo.{FieldInfo};
 ghost use Rattle.phase_types.specs.declared.state.CheckedProgram.{CheckedProgram as Parts};
-ghost use Rattle.phase_types.specs.Environments.{Comprehension, Site, block_start, next_scope, parts_of, start};
+ghost use Rattle.phase_types.specs.Environments.{Comprehension, Site, block_start, fields_of, first_declared, next_scope, parts_of, start};
 ghost use Rattle.phase_types.specs.Typed.{ComprehensionFits, IsTyped};
 ghost use Rattle.phase_types.specs.Walk.{OfField, mode_in};
+ghost use Rattle.kernel_eval.specs.Fits.{IsLive};
 ghost use Rattle.kernel_eval.specs.Preservation.{ChangesNothing, Commutes, field_values, loop_unfolded};
 ghost use Rattle.kernel_eval.specs.States.{State, field_lengths, known_scalars};
 ghost use Rattle.seq_meaning.specs.MainCode.{IsCode};
@@ -87,4 +90,12 @@ pub fn entries_fit_their_program()
         → AllByRecursion (EntryFits mesh program) (path_of mesh program turns) }
     ensures fields { (mesh : MeshLists) (program : Main) (turns : ℕ) → IsTyped program
         → DescendingFields (run mesh program turns).after.state.fields }
+{}
+
+/// When a typed program is done, each field of its outermost scope is live, with a value for each element of its kind.
+pub fn outermost_fields_are_live_at_the_end()
+    ensures { (mesh : MeshLists) (program : Main) (turns index : ℕ) (info : FieldInfo)
+        → IsTyped program → run_end mesh program turns ≡ Some IsDone
+        → slice_get (fields_of program) index ≡ Some info → info.scope ≡ 0
+        → IsLive mesh (run mesh program turns).after.state (first_declared + index) info.kind }
 {}
