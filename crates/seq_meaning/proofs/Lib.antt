@@ -12,7 +12,9 @@ pub mod MainStartLemmas
 pub mod MainStepLemmas
 pub mod MainValueLemmas
 pub mod NestingLemmas
-pub mod PathFitLemmas
+pub mod OutermostFieldLemmas
+pub mod PathEntryLemmas
+pub mod PathExtensionLemmas
 pub mod PathLemmas
 pub mod SequentialRunLemmas
 pub mod StateShapeLemmas

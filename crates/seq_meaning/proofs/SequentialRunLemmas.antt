@@ -35,14 +35,16 @@ use Rattle.kernel_eval.proofs.ReductionLemmas.{iteration_folds}
 use Rattle.seq_meaning.specs.FieldStores.{HasSpotsOf, StoreWords, declared_value, stored_value, view_of}
 use Rattle.seq_meaning.specs.FieldStores.{HoldsFields as HasFields}
 use Rattle.seq_meaning.specs.Internal.Iterating.{CanRunComprehension, HasRunComprehension}
-use Rattle.seq_meaning.specs.MainRuns.{AreFewer, AreSame, AtItem, Descends, Frame, InBlock, deepest, Ends, HasEvent, HasState, HaveOneMore, IsAt, MainRun, Reaches, Stands, StandsAt, Traps, World, logged}
-use Rattle.seq_meaning.specs.Paths.{DescendingFields, EntryFits}
-use Rattle.seq_meaning.specs.Runs.{ComprehensionReached, Entry, Event, FieldDeclared, Progress, ScopeClosed, ScopeOpened, after_iteration, after_scope, all_or_nothing, comprehension, lift_state, restored_outcome, run, with_earlier_path}
+use Rattle.seq_meaning.specs.MainRuns.{AreFewer, AreSame, AtItem, CanContinue, Frame, HasNext, HasOpened, InBlock, deepest, Ends, HasEvent, HasState, HaveOneMore, IsAt, MainRun, Reaches, Stands, StandsAt, Traps, World, logged}
+use Rattle.seq_meaning.specs.Paths.{DescendBelow, DescendingFields, EntryFits}
+use Rattle.seq_meaning.specs.Runs.{ComprehensionReached, Entry, Event, FieldDeclared, Progress, ScopeClosed, ScopeOpened, after_iteration, after_scope, all_or_nothing, comprehension, empty, lift_state, restored_outcome, run, with_earlier_path}
 use Rattle.seq_meaning.specs.SequentialRuns.{HasRun, SeqStore}
+use Rattle.seq_meaning.specs.declared.main_run.MainStep.{MainStep}
+use Rattle.seq_meaning.specs.declared.main_run.MainStep.TheVariants.{Over}
 use Rattle.seq_meaning.proofs.ComprehensionRunLemmas.{comprehension_knows, done_answer, trap_answer}
 use Rattle.seq_meaning.proofs.IterationLemmas.{for_each_unchanged}
 use Rattle.seq_meaning.proofs.MainStartLemmas.{has_an_end}
-use Rattle.seq_meaning.proofs.PathFitLemmas.{entries_fit}
+use Rattle.seq_meaning.proofs.PathEntryLemmas.{run_has_fitting_path}
 use Rattle.seq_meaning.proofs.PathLemmas.{change_commutes, event_commutes, main_commutes, state_commutes}
 use Rattle.seq_meaning.proofs.StoreFieldLemmas.{holds_after_declaration, some_found}
 use Rattle.seq_meaning.proofs.TypedRunLemmas.{run_ends}
@@ -66,11 +68,19 @@ view_holds s store h = record {
       record { value_is = ap (λ o. unwrap_or o (pos 0)) e; loadable = ap is_some e; storable = ap is_some e };
 }
 
-same_fields : (s t : State) (store : StoreWords) → t.fields ≡ s.fields → HoldsFields s (view_of store) → HoldsFields t (view_of store)
+pub same_fields : (s t : State) (store : StoreWords) → t.fields ≡ s.fields → HoldsFields s (view_of store) → HoldsFields t (view_of store)
 same_fields s t store same h = record { holds = λ spot value is. h.holds spot value (ap (λ fields. value_in fields spot) (sym same) ∙ is) }
 
 -- FIELDS WITH DESCENDING NUMBERS: the later ones keep their values where the first ones end
-found_below : (bound : ℕ) (fields : Fields) (number : ℕ) (values : List ℤ) → Descends bound (map (λ field. field.0) fields)
+below_some : (fields : Fields) → DescendingFields fields → (bound : ℕ) × DescendBelow bound fields
+below_some [] d = (0, tt {0})
+below_some (field ∷ fields) d = (suc field.0, (omega arith, d))
+
+descending : (bound : ℕ) (fields : Fields) → DescendBelow bound fields → DescendingFields fields
+descending bound [] d = tt {0}
+descending bound (field ∷ fields) d = d.1
+
+found_below : (bound : ℕ) (fields : Fields) (number : ℕ) (values : List ℤ) → DescendBelow bound fields
     → lookup (λ other. other == number) fields ≡ Some values → number < bound
 found_below bound [] number values d e = absurd cc
 found_below bound (field ∷ fields) number values d e = elim (eqb_tells field.0 number) [
@@ -78,7 +88,7 @@ found_below bound (field ∷ fields) number values d e = elim (eqb_tells field.0
   | inr h ↦ let l = found_below field.0 fields number values d.1 (rw h.0 at e) in omega (arith, d.0, l)
 ]
 
-lookup_kept : (bound : ℕ) (fields : Fields) (ended number : ℕ) (values : List ℤ) → Descends bound (map (λ field. field.0) fields)
+lookup_kept : (bound : ℕ) (fields : Fields) (ended number : ℕ) (values : List ℤ) → DescendBelow bound fields
     → lookup (λ other. other == number) (drop ended fields) ≡ Some values → lookup (λ other. other == number) fields ≡ Some values
 lookup_kept bound fields zero number values d e = e
 lookup_kept bound [] (suc ended) number values d e = absurd cc
@@ -98,21 +108,33 @@ value_found fields spot value is = go (lookup (λ number. number == spot.field) 
 value_kept : (fields : Fields) (ended : ℕ) (spot : Spot) (value : ℤ) → DescendingFields fields → value_in (drop ended fields) spot ≡ Some value → value_in fields spot ≡ Some value
 value_kept fields ended spot value d is =
     let found = value_found (drop ended fields) spot value is in
-    ap (option_and_then (λ values. slice_get values spot.id)) (lookup_kept d.bound fields ended spot.field found.0 d.descends found.1) ∙ found.2
+    let below = below_some fields d in
+    ap (option_and_then (λ values. slice_get values spot.id)) (lookup_kept below.0 fields ended spot.field found.0 below.1 found.1) ∙ found.2
 
-descends_drop : (bound : ℕ) (fields : Fields) (ended : ℕ) → Descends bound (map (λ field. field.0) fields) → DescendingFields (drop ended fields)
-descends_drop bound fields zero d = record { bound = bound; descends = d }
-descends_drop bound [] (suc ended) d = record { bound = bound; descends = tt {0} }
+descends_drop : (bound : ℕ) (fields : Fields) (ended : ℕ) → DescendBelow bound fields → DescendingFields (drop ended fields)
+descends_drop bound fields zero d = descending bound fields d
+descends_drop bound [] (suc ended) d = tt {0}
 descends_drop bound (field ∷ fields) (suc ended) d = descends_drop field.0 fields ended d.1
 
-lengths_keys : (before after : Fields) → map (λ field. (field.0, length field.1)) after ≡ map (λ field. (field.0, length field.1)) before
+dropped : (fields : Fields) (ended : ℕ) → DescendingFields fields → DescendingFields (drop ended fields)
+dropped fields ended d = let below = below_some fields d in descends_drop below.0 fields ended below.1
+
+descends_like : (bound : ℕ) (fields later : Fields) → map (λ field. field.0) later ≡ map (λ field. field.0) fields → DescendBelow bound fields → DescendBelow bound later
+descends_like bound fields [] e d = tt {0}
+descends_like bound [] (y ∷ later) e d = absurd cc
+descends_like bound (x ∷ fields) (y ∷ later) e d =
+    let key : y.0 ≡ x.0 = cc in
+    let rest : map (λ field. field.0) later ≡ map (λ field. field.0) fields = cc in
+    (omega (arith, d.0, key), descends_like y.0 fields later rest (subst (λ bound. DescendBelow bound fields) (sym key) d.1))
+
+lengths_keys : (before after : Fields) → map {B = ℕ × ℕ} (λ field. (field.0, length field.1)) after ≡ map {B = ℕ × ℕ} (λ field. (field.0, length field.1)) before
     → map (λ field. field.0) after ≡ map (λ field. field.0) before
 lengths_keys [] [] e = refl
 lengths_keys [] (y ∷ after) e = absurd cc
 lengths_keys (x ∷ before) [] e = absurd cc
 lengths_keys (x ∷ before) (y ∷ after) e =
     let pair : (y.0, length y.1) ≡ (x.0, length x.1) = cc in
-    let rest : map (λ field. (field.0, length field.1)) after ≡ map (λ field. (field.0, length field.1)) before = cc in
+    let rest : map {B = ℕ × ℕ} (λ field. (field.0, length field.1)) after ≡ map {B = ℕ × ℕ} (λ field. (field.0, length field.1)) before = cc in
     let key : y.0 ≡ x.0 = ap (λ (q : ℕ × ℕ). q.0) pair in
     ap (λ n. n ∷ map (λ field. field.0) after) key ∙ ap (λ keys. x.0 ∷ keys) (lengths_keys before after rest)
 
@@ -171,7 +193,7 @@ module _ (checked : CheckedProgram) (mesh : MeshLists) (turns : ℕ) (program : 
   entry_fits event later rest commutes is =
       all_at (EntryFits mesh program) later.path (rest (record { state = later.state; path = [] })).after.path (record { event = event; state = later.state })
       (subst (AllByRecursion (EntryFits mesh program)) (ap (λ outcome. outcome.after.path) is ∙ path_continues rest commutes (logged event later))
-      (entries_fit mesh program turns is_mesh typed))
+      (run_has_fitting_path mesh turns program typed).entries)
 
   module _ (main after : MainRun) (fields : StoreWords) (r : IsRunning checked mesh turns program main fields) where
     -- an event that leaves the fields as they are, or ends some of them
@@ -193,7 +215,7 @@ module _ (checked : CheckedProgram) (mesh : MeshLists) (turns : ℕ) (program : 
         holds = λ spot value is.
             r.holds.holds spot value (value_kept r.progress.state.fields e.fields.ended spot value r.descending (ap (λ fields. value_in fields spot) (sym e.fields.are) ∙ is));
       };
-      descending = subst DescendingFields (sym e.fields.are) (descends_drop r.descending.bound r.progress.state.fields e.fields.ended r.descending.descends);
+      descending = subst DescendingFields (sym e.fields.are) (dropped r.progress.state.fields e.fields.ended r.descending);
     }
 
     pub field_declared : (field : ℕ) (value : ℤ) (now : StoreWords)
@@ -235,20 +257,20 @@ module _ (checked : CheckedProgram) (mesh : MeshLists) (turns : ℕ) (program : 
 
     -- COMPREHENSIONS
     module _ (k : ℕ) (e : Reaches (world mesh program turns) k 0 [] checked.items r.progress r.at.remaining after) where
-      there : Progress
+      abbrev there : Progress
       there = logged (ComprehensionReached k) e.later
 
       run_is : run mesh program turns ≡ over_then e.rest there (comprehension mesh e.c turns e.later.state).after (comprehension mesh e.c turns e.later.state).answer
       run_is = r.at.is ∙ e.is
 
-      phase_fits : StateFits mesh e.c.environment e.later.state
+      pub phase_fits : StateFits mesh e.c.environment e.later.state
       phase_fits =
           let fits = entry_fits (ComprehensionReached k) e.later (lift_state (all_or_nothing (comprehension mesh e.c turns)) >> e.rest)
               (comprehension_commutes mesh e.c turns e.rest (stands_commute e.stands)) run_is in
           let phase = fits.phase k refl in
           subst (λ (c : Comprehension). StateFits mesh c.environment e.later.state) (some_same phase.0 e.c (sym phase.1 ∙ e.found)) phase.2
 
-      pub can_run : (store : SeqStore) → store.main ≡ after → store.fields ≡ fields → CanRunComprehension checked k mesh store
+      abbrev pub can_run : (store : SeqStore) → store.main ≡ after → store.fields ≡ fields → CanRunComprehension checked k mesh store
       can_run store main_is fields_are = record {
         program = program;
         is_checked = is_checked;
@@ -284,14 +306,15 @@ module _ (checked : CheckedProgram) (mesh : MeshLists) (turns : ℕ) (program : 
             };
           };
           holds = h.fields refl;
-          descending = record { bound = r.descending.bound; descends = subst (Descends r.descending.bound) (sym (keys ∙ ap (map (λ field. field.0)) e.fields)) r.descending.descends };
+          descending = let below = below_some r.progress.state.fields r.descending in
+              descending below.0 later.state.fields (descends_like below.0 r.progress.state.fields later.state.fields (keys ∙ ap (map (λ field. field.0)) e.fields) below.1);
         } where
+          ids : List ℕ
+          ids = numbers 0 (count mesh e.c.over)
+
           keys : map (λ field. field.0) (comprehension mesh e.c turns e.later.state).after.fields ≡ map (λ field. field.0) e.later.state.fields
           keys = lengths_keys e.later.state.fields (comprehension mesh e.c turns e.later.state).after.fields
               (for_each_unchanged field_lengths (after_iteration mesh e.c turns) (λ id s. iteration_lengths mesh e.c turns s id) ids e.later.state)
-
-          ids : List ℕ
-          ids = numbers 0 (count mesh e.c.over)
 
           fits : ComprehensionFits e.c
           fits = (comprehension_stands program typed k e.c e.found).fits
@@ -316,3 +339,24 @@ module _ (checked : CheckedProgram) (mesh : MeshLists) (turns : ℕ) (program : 
           is : run mesh program turns ≡ halt (Trapped trap) there
           is = run_is
               ∙ ap (over_then e.rest there (comprehension mesh e.c turns e.later.state).after) (trap_answer (comprehension mesh e.c turns e.later.state).answer trap h.ended)
+
+-- AT THE START, and at each event
+pub starts : (checked : CheckedProgram) (mesh : MeshLists) (turns : ℕ) (program : Main) (step : MainStep) (main : MainRun) (fields : StoreWords)
+    → HasOpened mesh program turns checked.items step main → IsRunning checked mesh turns program main fields
+starts checked mesh turns program step main fields opened = record {
+  progress = logged (ScopeOpened 0) (record { state = empty turns; path = [] });
+  at = opened.at;
+  holds = record { holds = λ spot value is. absurd cc };
+  descending = tt {0};
+}
+
+pub can_continue : (checked : CheckedProgram) (mesh : MeshLists) (turns : ℕ) (program : Main) (main : MainRun) (fields : StoreWords)
+    → IsRunning checked mesh turns program main fields → CanContinue checked main
+can_continue checked mesh turns program main fields r =
+    inr (record { w = world mesh program turns; outside = []; p = r.progress; remaining = r.at.remaining; stands = r.at.stands })
+
+pub run_over : (checked : CheckedProgram) (mesh : MeshLists) (turns : ℕ) (program : Main) → checked_program program ≡ Ok checked → IsMesh (length mesh.points) (corner_lists mesh)
+    → (main after : MainRun) (fields : StoreWords) (r : IsRunning checked mesh turns program main fields) (store : SeqStore) → store.main ≡ after → store.fields ≡ fields
+    → (end : RunEnd) → HasNext (world mesh program turns) checked.items r.progress r.at.remaining (Over end) after → HasRun mesh program turns end store
+run_over checked mesh turns program is is_mesh main after fields r store main_is fields_are IsDone e = run_done checked mesh turns program is is_mesh main after fields r store main_is fields_are e
+run_over checked mesh turns program is is_mesh main after fields r store main_is fields_are (IsTrap trap) e = run_trapped checked mesh turns program is is_mesh main after fields r store trap main_is e

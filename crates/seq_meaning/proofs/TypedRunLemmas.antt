@@ -34,7 +34,7 @@ use Rattle.seq_meaning.proofs.StateShapeLemmas.{Grows, scope_like, grows_kept}
 use Rattle.seq_meaning.proofs.MainPreservationLemmas.{OfStates, main_keeps}
 
 -- THE NEXT NUMBERS are new: those of visible fields and scalars are smaller
-record IsFresh (site : Site) : Type 0 where
+pub record IsFresh (site : Site) : Type 0 where
   pub fields : (name : List ℕ) (number : ℕ) (kind : Kind) → binding_of site.environment name ≡ Some (FieldName number kind) → number < next_field site
   pub scalars : (name : List ℕ) (number : ℕ) → binding_of site.environment name ≡ Some (ScalarName number) → number < next_scalar site
 
@@ -55,7 +55,7 @@ appended_part before part = record { rest = part ∷ []; appended = refl }
 prefix_transitive : {a b c : List Part} → IsPrefix a b → IsPrefix b c → IsPrefix a c
 prefix_transitive {a = a} r s = record { rest = r.rest ++ s.rest; appended = s.appended ∙ ap (λ parts. parts ++ s.rest) r.appended ∙ append_assoc a r.rest s.rest }
 
-block_fresh : (site : Site) → IsFresh site → IsFresh (block_start site)
+pub block_fresh : (site : Site) → IsFresh site → IsFresh (block_start site)
 block_fresh site = fresh_on site (block_start site) refl (appended_part site.parts _)
 
 -- an environment with a further binding
@@ -84,18 +84,18 @@ built_in_low name entry e =
     low_ones built_in_fields name entry
     (inl (omega arith, refl), (inl (omega arith, refl), (inl (omega arith, refl), (inl (omega arith, refl), (inr (refl, refl), tt {0}))))) e
 
-low_number : (number : ℕ) (kind : Kind) → IsBuiltIn number kind → number < 6
+pub low_number : (number : ℕ) (kind : Kind) → IsBuiltIn number kind → number < 6
 low_number number kind (inl is) = omega (arith, is.0)
 low_number number kind (inr is) = omega (arith, is.0)
 
-start_fresh : IsFresh start
+pub start_fresh : IsFresh start
 start_fresh = record {
   fields = λ name number kind e. omega (arith, low_number number kind (built_in_low name (FieldName number kind) e));
   scalars = λ name number e. absurd (built_in_low name (ScalarName number) e);
 }
 
 -- after a field and a scalar
-field_number : (site : Site) (name : List ℕ) (kind : Kind) → next_field (field_site name kind site) ≡ next_field site + 1
+pub field_number : (site : Site) (name : List ℕ) (kind : Kind) → next_field (field_site name kind site) ≡ next_field site + 1
 field_number site name kind =
     omega (
       arith,
@@ -132,18 +132,18 @@ scalar_fresh site name fresh = record {
 }
 
 -- after an item the environment has the binding of a declaration, or is the same
-environment_after_if : (site : Site) (place : Place) (test : Expression) (first second : Main) (has_else : Bool) → (after_item site (MainIf place test first second has_else)).environment ≡ site.environment
+pub environment_after_if : (site : Site) (place : Place) (test : Expression) (first second : Main) (has_else : Bool) → (after_item site (MainIf place test first second has_else)).environment ≡ site.environment
 environment_after_if site place test first second has_else = go (has_else_block second has_else) _ _ refl refl where
   go : (b : Bool) (this other : Site) → this.environment ≡ site.environment → other.environment ≡ site.environment → (if b then this else other).environment ≡ site.environment
   go true this other e f = e
   go false this other e f = f
 
-first_fresh : (site : Site) (first : Main) → IsFresh site → IsFresh (block_start (after_block site (after_main (block_start site) first)))
+pub first_fresh : (site : Site) (first : Main) → IsFresh site → IsFresh (block_start (after_block site (after_main (block_start site) first)))
 first_fresh site first fresh =
     fresh_on site (block_start (after_block site (after_main (block_start site) first))) refl
     (prefix_transitive (prefix_transitive (appended_part site.parts (ScopePart site.scope)) (main_is_prefix (block_start site) first)) (appended_part (after_main (block_start site) first).parts _)) fresh
 
-fresh_after : (site : Site) (i : MainItem) → ItemFits site i → IsFresh site → IsFresh (after_item site i)
+pub fresh_after : (site : Site) (i : MainItem) → ItemFits site i → IsFresh site → IsFresh (after_item site i)
 fresh_after site _ (FitsMainField place name at kind h is) fresh = field_fresh site name kind fresh
 fresh_after site _ (FitsMainVar place name at h is) fresh = scalar_fresh site name fresh
 fresh_after site i (FitsMainAssign place name how is h) fresh = fresh
@@ -167,7 +167,7 @@ module _ (mesh : MeshLists) where
   other_key : (number other : ℕ) → number < other → (other == number) ≡ false
   other_key number other l = ne_eqb other number (λ e. absurd (omega (arith, l, e)))
 
-  field_fits : (site : Site) (name : List ℕ) (kind : Kind) (n : ℤ) (s : State) → IsFresh site → StateFits mesh site.environment s
+  pub field_fits : (site : Site) (name : List ℕ) (kind : Kind) (n : ℤ) (s : State) → IsFresh site → StateFits mesh site.environment s
       → StateFits mesh (field_site name kind site).environment (with_field (next_field site) (count mesh kind) n s)
   field_fits site name kind n s fresh h = record { entry_fits = λ other entry e. go other entry (first_or_rest_binding site.environment name other (FieldName (next_field site) kind) entry e) } where
     after : State
@@ -188,7 +188,7 @@ module _ (mesh : MeshLists) where
     go other entry (inl is) = subst (EntryFits mesh after) is new_fits
     go other entry (inr old) = old_fits other entry old (h.entry_fits other entry old)
 
-  scalar_fits : (site : Site) (name : List ℕ) (n : ℤ) (s : State) → IsFresh site → StateFits mesh site.environment s
+  pub scalar_fits : (site : Site) (name : List ℕ) (n : ℤ) (s : State) → IsFresh site → StateFits mesh site.environment s
       → StateFits mesh (scalar_site name site).environment (with_scalar (next_scalar site) n s)
   scalar_fits site name n s fresh h = record { entry_fits = λ other entry e. go other entry (first_or_rest_binding site.environment name other (ScalarName (next_scalar site)) entry e) } where
     after : State
@@ -203,6 +203,14 @@ module _ (mesh : MeshLists) where
     go : (other : List ℕ) (entry : Binding) → ((ScalarName (next_scalar site) ≡ entry) ⊎ (binding_of site.environment other ≡ Some entry)) → EntryFits mesh after entry
     go other entry (inl is) = subst (EntryFits mesh after) is (rw (eq-eqb (next_scalar site) (next_scalar site) refl) refl)
     go other entry (inr old) = old_fits other entry old (h.entry_fits other entry old)
+
+  pub start_fits : (turns : ℕ) → StateFits mesh built_in_fields (empty turns)
+  start_fits turns = record { entry_fits = λ name entry e. go entry (built_in_low name entry e) } where
+    go : (entry : Binding) → IsLow entry → EntryFits mesh (empty turns) entry
+    go (FieldName number kind) low = inl low
+    go (ScalarName number) low = absurd low
+    go LocalName low = absurd low
+    go (ElementName kind) low = absurd low
 
   -- EXPRESSIONS in the main program
   evaluation_fits : (site : Site) (s : State) → StateFits mesh site.environment s → EvaluationFits mesh site.environment site.environment (main_evaluation s)
@@ -364,15 +372,7 @@ module _ (mesh : MeshLists) where
       main_ends (FitsNoItem site) fresh = record { ends = λ p h. (tt, tt) }
       main_ends {site = site} (FitsItems {i = i} f g) fresh = ends_then (item_ends f fresh) (λ done any. main_ends g (fresh_after site i f fresh))
 
-    start_fits : StateFits mesh built_in_fields (empty turns)
-    start_fits = record { entry_fits = λ name entry e. go entry (built_in_low name entry e) } where
-      go : (entry : Binding) → IsLow entry → EntryFits mesh (empty turns) entry
-      go (FieldName number kind) low = inl low
-      go (ScalarName number) low = absurd low
-      go LocalName low = absurd low
-      go (ElementName kind) low = absurd low
-
     pub run_ends : (program : Main) → IsTyped program → is_some (run_end mesh program turns) ≡ true
     run_ends program typed =
         is_an_end Any (run mesh program turns).after (run mesh program turns).answer
-        ((ends_then (log_event_ends start (ScopeOpened 0)) (λ done any. main_ends typed start_fresh)).ends (record { state = empty turns; path = [] }) start_fits)
+        ((ends_then (log_event_ends start (ScopeOpened 0)) (λ done any. main_ends typed start_fresh)).ends (record { state = empty turns; path = [] }) (start_fits turns))

@@ -4,5 +4,6 @@ pub mod MainCode
 pub mod MainRuns
 pub mod MainValues
 pub mod Paths
+pub mod RemainingEvents
 pub mod Runs
 pub mod SequentialRuns

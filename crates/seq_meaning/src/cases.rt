@@ -14,6 +14,7 @@ ghost use Rattle.kernel_eval.specs.Iterations.{acts, end_of, iteration_end, part
 ghost use Rattle.phase_types.specs.Environments.{scopes_of};
 ghost use Rattle.mesh_topology.specs.Internal.Meshes.{one_cell, two_cells};
 ghost use Rattle.seq_meaning.specs.Internal.Cases.{acts_and_folds, adds_greatest, an_act, compares_nil, divides_for_nil, first_comprehension, first_state, locals_end, loop_divides, loops_of_iterations, nested_loops, scopes_of_branches, set_of_nil, with_prints, along_cycles, counts_in_iterations, counts_no_ends, counts_to, divides_by_ids, field_in_scope, heat, id_of_nil, least_id, no_cells, placed, reads_built_ins, scalars_end, sides_of_faces, traps_at_element, traps_in_main, wraps_and_traps, writes_heads, writes_twice};
+ghost use Rattle.seq_meaning.specs.Paths.{DescendingFields};
 ghost use Rattle.seq_meaning.specs.Runs.{print_number, ScopeOpened, ScopeClosed, FieldDeclared, ComprehensionReached, RunEnded, fields_left, path_of, phases_of, prints_of, run_end};
 
 /// The degree of each vertex of one cell and of two.
@@ -98,8 +99,19 @@ fn paths()
         ∷ ((7, pos 2 ∷ pos 2 ∷ []) ∷ (6, pos 1 ∷ pos 1 ∷ []) ∷ []) ∷ [] }
     ensures scalars { map (λ phase. phase.1.scalars) (phases_of two_cells field_in_scope 5)
         ≡ ((0, pos 0) ∷ []) ∷ ((0, pos 1) ∷ []) ∷ [] }
+    ensures live { map (λ entry. map (λ field. field.0) entry.state.fields)
+        (path_of two_cells field_in_scope 5)
+        ≡ [] ∷ (6 ∷ []) ∷ (6 ∷ []) ∷ (7 ∷ 6 ∷ []) ∷ (7 ∷ 6 ∷ []) ∷ (6 ∷ [])
+        ∷ (6 ∷ []) ∷ (7 ∷ 6 ∷ []) ∷ (7 ∷ 6 ∷ []) ∷ (6 ∷ []) ∷ (6 ∷ []) ∷ [] }
     ensures fields { fields_left two_cells field_in_scope 5 ≡ Some ((6, pos 1 ∷ pos 1 ∷ []) ∷ []) }
     ensures prints { prints_of two_cells field_in_scope 5 ≡ pos 2 ∷ [] }
+{}
+
+/// Numbers of fields that descend, and equal ones, which do not.
+fn descending_numbers()
+    ensures descend { DescendingFields ((9, []) ∷ (7, []) ∷ (6, []) ∷ []) }
+    ensures equal { DescendingFields ((9, []) ∷ (7, []) ∷ (7, []) ∷ []) → ⊥ }
+    ensures ascend { DescendingFields ((9, []) ∷ (6, []) ∷ (7, []) ∷ []) → ⊥ }
 {}
 
 /// Names of a block end with it: a name declared in the body of a loop can be declared again after it.

@@ -1,22 +1,27 @@
 //! Laws of the definitions, each the contract of a function that does nothing.
 
-ghost use Rattle.std.specs.Prelude.{◌≡◌, ◌≤◌, ℕ, List, Ok, is_some, length, true};
+ghost use Rattle.std.specs.List.{AllByRecursion};
+ghost use Rattle.std.specs.Prelude.{◌+◌, ◌≡◌, ◌≤◌, ℕ, List, Ok, Some, is_some, length, slice_get, true};
 ghost use Rattle.liszt_base.specs.MeshLists.{MeshLists};
 ghost use Rattle.liszt_base.specs.Corners.{IsMesh};
 ghost use Rattle.mesh_topology.specs.Elements.{corner_lists};
 ghost use Rattle.liszt_base.specs.declared.answers.Place.{Place};
+ghost use Rattle.liszt_base.specs.declared.answers.RunEnd.TheVariants.{Done as IsDone};
 ghost use Rattle.liszt_base.specs.declared.answers.TrapKind.TheVariants.{Spent};
 ghost use Rattle.liszt_tree.specs.Tree.{Expression, Main, MainWhile};
 ghost use Rattle.kernel_eval.specs.Meaning.{trap};
 ghost use Rattle.phase_types.specs.Checked.{checked_program};
+ghost use Rattle.phase_types.specs.declared.info.FieldInfo.{FieldInfo};
 ghost use Rattle.phase_types.specs.declared.state.CheckedProgram.{CheckedProgram as Parts};
-ghost use Rattle.phase_types.specs.Environments.{Comprehension, Site, block_start, next_scope, parts_of, start};
+ghost use Rattle.phase_types.specs.Environments.{Comprehension, Site, block_start, fields_of, first_declared, next_scope, parts_of, start};
 ghost use Rattle.phase_types.specs.Typed.{ComprehensionFits, IsTyped};
 ghost use Rattle.phase_types.specs.Walk.{OfField, mode_in};
+ghost use Rattle.kernel_eval.specs.Fits.{IsLive};
 ghost use Rattle.kernel_eval.specs.Preservation.{ChangesNothing, Commutes, field_values, loop_unfolded};
 ghost use Rattle.kernel_eval.specs.States.{State, field_lengths, known_scalars};
 ghost use Rattle.seq_meaning.specs.MainCode.{IsCode};
-ghost use Rattle.seq_meaning.specs.Runs.{Entry, Progress, comprehension, in_program, in_scope, item_meaning, iterations, main_meaning, program_turns, run_end, truth_at, with_earlier_path};
+ghost use Rattle.seq_meaning.specs.Paths.{DescendingFields, EntryFits, Extends};
+ghost use Rattle.seq_meaning.specs.Runs.{Entry, Progress, comprehension, in_program, in_scope, item_meaning, iterations, main_meaning, path_of, program_turns, run, run_end, truth_at, with_earlier_path};
 
 /// A comprehension changes no field that it does not write or reduce, and does not change the turns of the main program.
 pub fn comprehensions_preserve_other_fields()
@@ -46,6 +51,12 @@ pub fn the_path_is_never_read()
         → Commutes (with_earlier_path path) (main_meaning mesh turns site program) }
 {}
 
+/// No program takes anything back from the path: afterwards it is the path at entry and then further entries.
+pub fn later_paths_extend_earlier_ones()
+    ensures { (mesh : MeshLists) (turns : ℕ) (site : Site) (program : Main) (p : Progress)
+        → Extends p.path (main_meaning mesh turns site program p).after.path }
+{}
+
 /// No program increases the number of turns, and a `while` of the main program unfolds: its test; if that is true, a turn, its block,
 /// and the same `while` again; if no turn remains, a trap. So turns are its only bound.
 pub fn main_loops_unfold()
@@ -71,4 +82,20 @@ pub fn typed_programs_end()
 pub fn checked_programs_are_code()
     ensures { (program : Main) (checked : Parts) → checked_program program ≡ Ok checked
         → IsCode (parts_of program) start program checked.items }
+{}
+
+/// Each entry of the path of a typed program fits it, and the numbers of the fields descend in the last state too.
+pub fn entries_fit_their_program()
+    ensures entries { (mesh : MeshLists) (program : Main) (turns : ℕ) → IsTyped program
+        → AllByRecursion (EntryFits mesh program) (path_of mesh program turns) }
+    ensures fields { (mesh : MeshLists) (program : Main) (turns : ℕ) → IsTyped program
+        → DescendingFields (run mesh program turns).after.state.fields }
+{}
+
+/// When a typed program is done, each field of its outermost scope is live, with a value for each element of its kind.
+pub fn outermost_fields_are_live_at_the_end()
+    ensures { (mesh : MeshLists) (program : Main) (turns index : ℕ) (info : FieldInfo)
+        → IsTyped program → run_end mesh program turns ≡ Some IsDone
+        → slice_get (fields_of program) index ≡ Some info → info.scope ≡ 0
+        → IsLive mesh (run mesh program turns).after.state (first_declared + index) info.kind }
 {}

@@ -13,6 +13,7 @@ ghost use Rattle.seq_meaning.specs.SequentialRuns.{HasRun, IsPreparedFor};
 use crate::field_store::FieldStore;
 use crate::main_run::{MainRun, MainStep};
 use crate::seq_store::SeqStore;
+use crate::values::scalar_at;
 use kernel_eval::{Locals, run_iteration};
 use liszt_base::{Mode, RunEnd, fold_op};
 use mesh_topology::Mesh;
@@ -38,8 +39,9 @@ fn run_iterations(
         → HasSpotsOf declared m.now fields.new }
 {
     for id in 0..m.count(c.comp_kind(k)) {
-        if let RunEnd::Trap(trap) = run_iteration(c, k, m, id, turns, fields, locals) {
-            return RunEnd::Trap(trap);
+        match run_iteration(c, k, m, id, turns, fields, locals) {
+            RunEnd::Done => {}
+            RunEnd::Trap(trap) => return RunEnd::Trap(trap),
         }
     }
     RunEnd::Done
@@ -65,7 +67,7 @@ fn reduce_scalars(c: &Checked, k: u32, locals: &Locals, main: &mut MainRun)
 {
     c.is_checked();
     for scalar in 0..c.scalars().len() as u32 {
-        let old = main.scalars()[scalar as usize];
+        let old = scalar_at(main.scalars(), scalar);
         let new = value_after(c.scalar_mode(k, scalar), old, locals.partial(scalar));
         main.set_scalar(scalar, new);
     }
@@ -97,6 +99,7 @@ pub fn run_seq(c: &Checked, m: &Mesh, turns: u64, store: &mut SeqStore) -> RunEn
         → HasRun m.now program turns result store.new }
     ensures prepared { IsPreparedFor c.now m.now store.new }
 {
+    c.is_checked();
     m.fits_together();
     store.main.begin(turns);
     store.main.next(c);
@@ -104,12 +107,12 @@ pub fn run_seq(c: &Checked, m: &Mesh, turns: u64, store: &mut SeqStore) -> RunEn
         match store.main.next(c) {
             MainStep::Over(end) => return end,
             MainStep::Declare { field, value } => store.fields.declare(field, value),
-            MainStep::Comp(k) => {
-                if let RunEnd::Trap(trap) = run_comprehension(c, k, m, turns, store) {
-                    return RunEnd::Trap(trap);
-                }
-            }
-            MainStep::Enter(_) | MainStep::Leave(_) => {}
+            MainStep::Comp(k) => match run_comprehension(c, k, m, turns, store) {
+                RunEnd::Done => {}
+                RunEnd::Trap(trap) => return RunEnd::Trap(trap),
+            },
+            MainStep::Enter(_scope) => {}
+            MainStep::Leave(_scope) => {}
         }
     }
 }

@@ -1,5 +1,5 @@
 -- What a sequential run has of a comprehension before, during and after its iterations. Private functions' contracts cite it.
-use Rattle.std.specs.Prelude.{◌≡◌, ◌×◌, ℕ, Some, ℤ, pos, List, length, get_or, slice_get, Option, Ok}
+use Rattle.std.specs.Prelude.{◌≡◌, ◌<◌, ◌≤◌, ℕ, Some, ℤ, pos, List, length, get_or, slice_get, Option, Ok}
 use Rattle.std.specs.List.{fold as fold_list}
 use Rattle.liszt_base.specs.MeshLists.{MeshLists}
 use Rattle.liszt_base.specs.Reductions.{InRange, fold, identity_of}
@@ -96,3 +96,11 @@ pub record AreReduced (checked : CheckedProgram) (k : ℕ) (partials old new : L
   pub in_range : (scalar : ℕ) (value : ℤ) → slice_get old scalar ≡ Some value → InRange value
   pub values : (scalar : ℕ) (value : ℤ) → slice_get old scalar ≡ Some value
       → slice_get new scalar ≡ Some (value_after (checked_mode checked k (OfScalar scalar)) value (get_or partials scalar (pos 0)))
+
+-- the scalars below a bound are reduced so far
+pub record AreReducedBelow (checked : CheckedProgram) (k : ℕ) (partials old new : List ℤ) (bound : ℕ) : Type 0 where
+  pub count : length new ≡ length old
+  pub in_range : (scalar : ℕ) (value : ℤ) → slice_get old scalar ≡ Some value → scalar < bound → InRange value
+  pub values : (scalar : ℕ) (value : ℤ) → slice_get old scalar ≡ Some value → scalar < bound
+      → slice_get new scalar ≡ Some (value_after (checked_mode checked k (OfScalar scalar)) value (get_or partials scalar (pos 0)))
+  pub rest : (scalar : ℕ) → bound ≤ scalar → slice_get new scalar ≡ slice_get old scalar
