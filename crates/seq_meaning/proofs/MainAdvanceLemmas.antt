@@ -11,7 +11,7 @@ use Rattle.phase_types.specs.Environments.{Site, next_scalar}
 use Rattle.kernel_eval.specs.Outcomes.{Stop, Trapped, Outcome, Computation, Done, pure, halt, continue_with, ◌>>◌}
 use Rattle.kernel_eval.specs.States.{Fields, State, known_scalars}
 use Rattle.seq_meaning.specs.MainCode.{IsCode}
-use Rattle.seq_meaning.specs.MainRuns.{Frame, MainRun, InnerBlock, block_at, index_after, block_and_rest, deepest, frames_left, World, Descends, Stands, AtItem, InBlock, StandsAt, KeepsBelow, HasEvent, Ends, HasAdvanced, AreSame, AreFewer, HaveOneMore, CanAdvance, block_in, next_frame, logged}
+use Rattle.seq_meaning.specs.MainRuns.{Frame, MainRun, InnerBlock, block_at, index_after, block_and_rest, deepest, frames_left, World, Descends, Stands, AtItem, InBlock, StandsAt, KeepsShape, HasEvent, Ends, HasAdvanced, AreSame, AreFewer, HaveOneMore, CanAdvance, block_in, next_frame, logged}
 use Rattle.seq_meaning.specs.Runs.{Event, ScopeOpened, ScopeClosed, FieldDeclared, ComprehensionReached, Progress, log_event, lift_state, modify_state, after_scope, all_or_nothing, comprehension, main_meaning}
 use Rattle.seq_meaning.specs.declared.main_run.MainStep.{MainStep}
 use Rattle.seq_meaning.specs.declared.main_run.MainStep.TheVariants.{Enter, Leave, Declare, Comp, Over}
@@ -102,7 +102,7 @@ module _ {w : World} {r : MainRun} {level : ℕ} {outside : List ℕ} {items : L
   }
 
   -- the block has an event, and so has the block around it
-  module _ (after : MainRun) (keeps : KeepsBelow (suc level) r after) where
+  module _ (after : MainRun) (keeps : KeepsShape (suc level) r after) where
     abbrev around : Computation Progress Done → Computation Progress Done
     around rest = block_and_rest w inside_here.before inside_here.inner.block.scope rest inside_here.site inside_here.rest
 
@@ -151,7 +151,7 @@ module _ {w : World} {r : MainRun} {level : ℕ} {outside : List ℕ} {items : L
       has_state = g.has_state;
       room = omega (arith, s.room, keeps.count);
     }
-    advances_around (Over (EndTrap trap)) g = record { later = g.later; is = remaining_is (halt (Trapped trap) g.later) g.is; path = g.path; prints = g.prints }
+    advances_around (Over (EndTrap trap)) g = record { later = g.later; is = remaining_is (halt (Trapped trap) g.later) g.is; path = g.path; has_state = g.has_state }
     advances_around (Over EndDone) g = g
 
     -- the block ends
@@ -229,8 +229,8 @@ pub advances_at : (r after : MainRun) (level next : ℕ) (items slice : List Ite
 advances_at r after level next items slice result same_level same_items h =
     subst (λ items. Advances r (suc level) items result after) same_items (subst (λ level. Advances r level slice result after) same_level h)
 
-pub keeps_at : (r after : MainRun) (level next : ℕ) → next ≡ suc level → KeepsBelow next r after → KeepsBelow (suc level) r after
-keeps_at r after level next same h = subst (λ level. KeepsBelow level r after) same h
+pub keeps_at : (r after : MainRun) (level next : ℕ) → next ≡ suc level → KeepsShape next r after → KeepsShape (suc level) r after
+keeps_at r after level next same h = subst (λ level. KeepsShape level r after) same h
 
 pub can_at : (r : MainRun) (level next : ℕ) (items slice : List ItemCode) → next ≡ suc level → slice ≡ items → CanAdvance r (suc level) items → CanAdvance r next slice
 can_at r level next items slice same_level same_items h =
@@ -252,9 +252,11 @@ block_within items frame inner found = go (slice_get items frame.index) refl fou
   go (Some c) is found = slice_get_within items frame.index c is
   go None is found = absurd cc
 
-pub keeps_left : (level : ℕ) (r mid : MainRun) (frame : Frame) (repeated : Bool) → KeepsBelow (suc level) r mid → KeepsBelow level r (record mid { depth = suc level; frames = frames_left mid.frames level frame repeated })
-keeps_left level r mid frame true h = record { frames = λ j l. h.frames j (omega (arith, l)); count = h.count }
+pub keeps_left : (level : ℕ) (r mid : MainRun) (frame : Frame) (repeated : Bool) → KeepsShape (suc level) r mid → KeepsShape level r (record mid { depth = suc level; frames = frames_left mid.frames level frame repeated })
+keeps_left level r mid frame true h = record { frames = λ j l. h.frames j (omega (arith, l)); count = h.count; scalars = h.scalars; prints = h.prints }
 keeps_left level r mid frame false h = record {
   frames = λ j l. set_there mid.frames level j (next_frame frame) (λ same. absurd (omega (arith, same, l))) ∙ h.frames j (omega (arith, l));
   count = length_set mid.frames level (next_frame frame) ∙ h.count;
+  scalars = h.scalars;
+  prints = h.prints;
 }

@@ -10,7 +10,7 @@ use Rattle.phase_types.specs.Environments.{Site}
 use Rattle.kernel_eval.specs.Outcomes.{Computation, Done, pure}
 use Rattle.kernel_eval.specs.States.{Fields, known_scalars}
 use Rattle.seq_meaning.specs.MainCode.{IsCode, NoCode}
-use Rattle.seq_meaning.specs.MainRuns.{Frame, MainRun, World, Stands, AtItem, InBlock, StandsAt, KeepsBelow, HasEvent, Ends, Continues, HasAdvanced, HasDoneItem, AreSame, AreFewer, HaveOneMore, CanAdvance, CanDo, next_frame}
+use Rattle.seq_meaning.specs.MainRuns.{Frame, MainRun, World, Stands, AtItem, InBlock, StandsAt, KeepsShape, HasEvent, Ends, Continues, HasAdvanced, HasDoneItem, AreSame, AreFewer, HaveOneMore, CanAdvance, CanDo, next_frame}
 use Rattle.seq_meaning.specs.Runs.{Event, ScopeOpened, ScopeClosed, FieldDeclared, Progress, main_meaning}
 use Rattle.seq_meaning.specs.declared.main_run.MainStep.{MainStep}
 use Rattle.seq_meaning.specs.declared.main_run.MainStep.TheVariants.{Enter, Leave, Declare, Comp, Over}
@@ -30,11 +30,11 @@ pub can_do : {r : MainRun} {level : ℕ} {items : List ItemCode} (can : CanAdvan
 can_do can innermost frame next c at next_is is = record { can = can; innermost = innermost; frame = frame; at = at; next_is = next_is; item = is }
 
 -- ONE AFTER ANOTHER
-pub keeps_itself : (level : ℕ) (r : MainRun) → KeepsBelow level r r
-keeps_itself level r = record { frames = λ j l. refl; count = refl }
+pub keeps_itself : (level : ℕ) (r : MainRun) → KeepsShape level r r
+keeps_itself level r = record { frames = λ j l. refl; count = refl; scalars = refl; prints = refl }
 
-pub keeps_then : {level : ℕ} {r mid after : MainRun} → KeepsBelow level r mid → KeepsBelow level mid after → KeepsBelow level r after
-keeps_then h g = record { frames = λ j l. g.frames j l ∙ h.frames j l; count = g.count ∙ h.count }
+pub keeps_then : {level : ℕ} {r mid after : MainRun} → KeepsShape level r mid → KeepsShape level mid after → KeepsShape level r after
+keeps_then h g = record { frames = λ j l. g.frames j l ∙ h.frames j l; count = g.count ∙ h.count; scalars = g.scalars ∙ h.scalars; prints = g.prints ∙ h.prints }
 
 pub continues_itself : {w : World} {r : MainRun} {level : ℕ} {outside : List ℕ} {items : List ItemCode} {p : Progress} {remaining : Computation Progress Done}
     → StandsAt w r level outside items p remaining → Continues w level outside items p remaining r r
@@ -55,7 +55,7 @@ module _ {w : World} {r mid : MainRun} {level : ℕ} {outside : List ℕ} {items
   advances_then (Some (Leave scope)) g = event_then (ScopeClosed scope) AreFewer g
   advances_then (Some (Declare field value)) g = event_then (FieldDeclared field value) (HaveOneMore w field value) g
   advances_then (Some (Comp k)) g = record { later = g.later; rest = g.rest; c = g.c; found = g.found; is = h.is ∙ g.is; path = g.path ∙ h.path; fields = g.fields ∙ h.fields; stands = g.stands; has_state = g.has_state; room = g.room }
-  advances_then (Some (Over (EndTrap trap))) g = record { later = g.later; is = h.is ∙ g.is; path = g.path ∙ h.path; prints = g.prints }
+  advances_then (Some (Over (EndTrap trap))) g = record { later = g.later; is = h.is ∙ g.is; path = g.path ∙ h.path; has_state = g.has_state }
   advances_then (Some (Over EndDone)) g = g
 
   pub item_then : (result : Result (Option MainStep) Trap) → HasDoneItem w level outside items h.later h.rest result mid after → result ≡ Ok None → Continues w level outside items p remaining r after

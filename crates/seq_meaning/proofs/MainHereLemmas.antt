@@ -16,7 +16,7 @@ use Rattle.phase_types.specs.Environments.{Part, IsPrefix, Site, ScalarName, bin
 use Rattle.phase_types.proofs.PartLemmas.{item_is_prefix, next_part}
 use Rattle.kernel_eval.specs.Outcomes.{Computation, Done}
 use Rattle.seq_meaning.specs.MainCode.{IsNumberCode, IsTruthCode, IsCode, FieldCode, VarCode, AssignCode, IfCode, IfElseCode, WhileCode, ForCode, PrintCode}
-use Rattle.seq_meaning.specs.MainRuns.{Frame, MainRun, World, Descends, Stands, AtItem, InBlock, KeepsBelow}
+use Rattle.seq_meaning.specs.MainRuns.{Frame, MainRun, World, Descends, Stands, AtItem, InBlock, KeepsShape}
 use Rattle.seq_meaning.specs.Runs.{Progress, main_meaning}
 use Rattle.seq_meaning.proofs.MainStepLemmas.{set_here, set_there, length_set, drop_at, descends_below}
 use Rattle.seq_meaning.proofs.TypedRunLemmas.{more_of}
@@ -68,10 +68,13 @@ pub at_next : (w : World) (frames : List Frame) (depth level : ℕ) (outside kno
 at_next w frames depth level outside known new items frame site rest l innermost code known_is descends =
     AtItem frame site rest new (set_here frames level frame l) innermost code known_is descends
 
-pub keeps_below : (level : ℕ) (r after : MainRun) (frame : Frame) → after.frames ≡ slice_set r.frames level frame → KeepsBelow level r after
-keeps_below level r after frame is = record {
+pub keeps_shape : (level : ℕ) (r after : MainRun) (frame : Frame) → after.frames ≡ slice_set r.frames level frame → length after.scalars ≡ length r.scalars → length after.prints ≡ length r.prints
+    → KeepsShape level r after
+keeps_shape level r after frame is scalars prints = record {
   frames = λ j l. ap (λ frames. slice_get frames j) is ∙ set_there r.frames level j frame (λ same. absurd (omega (arith, same, l)));
   count = ap (λ frames. length frames) is ∙ length_set r.frames level frame;
+  scalars = scalars;
+  prints = prints;
 }
 
 pub scalars_after_item : (site : Site) (i : MainItem) (known : List ℕ) → Descends (next_scalar site) known → Descends (next_scalar (after_item site i)) known

@@ -25,11 +25,11 @@ use Rattle.kernel_eval.specs.Outcomes.{Stop, Trapped, NoMeaning, Outcome, Comput
 use Rattle.kernel_eval.specs.States.{scalar_value, with_scalar_value, known_scalars, main_evaluation}
 use Rattle.kernel_eval.specs.Meaning.{assigned_value, trap, number_in, truth_in}
 use Rattle.seq_meaning.specs.MainCode.{IsNumberCode, IsTruthCode, IsCode}
-use Rattle.seq_meaning.specs.MainRuns.{Frame, MainRun, World, Descends, Stands, AtItem, InBlock, block_and_rest, block_in, block_at, index_after, nested, deepest, HasState, StandsAt, HasEvent, Reaches, Traps, Continues, HaveOneMore, AreSame, logged, next_frame, KeepsBelow, CanDo, HasDone}
+use Rattle.seq_meaning.specs.MainRuns.{Frame, MainRun, World, Descends, Stands, AtItem, InBlock, block_and_rest, block_in, block_at, index_after, nested, deepest, HasState, StandsAt, HasEvent, Reaches, Traps, Continues, HaveOneMore, AreSame, logged, next_frame, KeepsShape, CanDo, HasDone}
 use Rattle.seq_meaning.specs.declared.main_run.MainStep.TheVariants.{Enter, Declare, Comp}
 use Rattle.seq_meaning.specs.MainValues.{main_trap, main_number, main_truth}
 use Rattle.seq_meaning.specs.Runs.{Progress, ScopeOpened, in_scope, program_turns, item_meaning, assign_main_name, assign_main_scalar, print_number, in_program, FieldDeclared, main_meaning, number_at, truth_at, modify_state, log_event, with_field, with_scalar}
-use Rattle.seq_meaning.proofs.MainHereLemmas.{Here, here, code_here, at_next, keeps_below, scalars_after_item, FieldHere, field_here, VarHere, var_here, AssignHere, assign_here, PrintHere, print_here, ForHere, for_here, WhileHere, while_here, ElseHere, IfHere, if_here, out_if, out_while, block_descends}
+use Rattle.seq_meaning.proofs.MainHereLemmas.{Here, here, code_here, at_next, keeps_shape, scalars_after_item, FieldHere, field_here, VarHere, var_here, AssignHere, assign_here, PrintHere, print_here, ForHere, for_here, WhileHere, while_here, ElseHere, IfHere, if_here, out_if, out_while, block_descends}
 use Rattle.kernel_eval.specs.HeldFields.{HoldsScalars}
 use Rattle.kernel_eval.proofs.LoopLemmas.{loop_is}
 use Rattle.seq_meaning.proofs.MainCodeLemmas.{got}
@@ -93,7 +93,7 @@ module _ (w : World) (r : MainRun) (level : ℕ) (outside : List ℕ) (items : L
   }
 
   pub trapped : (t : Trap) → remaining p ≡ halt (Trapped t) p → Traps w t p remaining r
-  trapped t is = record { later = p; is = is; path = refl; prints = s.has_state.prints }
+  trapped t is = record { later = p; is = is; path = refl; has_state = s.has_state }
 
   still_means : (q : Progress) (rest : Computation Progress Done) → remaining p ≡ rest q → (rest q).answer ≢ Err NoMeaning
   still_means q rest is none = s.has_meaning (ap (λ outcome. outcome.answer) is ∙ none)
@@ -582,8 +582,8 @@ pub traps_there : (r : MainRun) (level : ℕ) (items : List ItemCode) (next : Fr
     → ((w : World) (outside : List ℕ) (p : Progress) (remaining : Computation Progress Done) → StandsAt w r level outside items p remaining → remaining p ≡ halt (Trapped t) p)
     → HasDone level items next (Err t) r r
 traps_there r level items next t h = record {
-  done = λ w outside p remaining s. record { later = p; is = h w outside p remaining s; path = refl; prints = s.has_state.prints };
-  keeps = record { frames = λ j l. refl; count = refl };
+  done = λ w outside p remaining s. record { later = p; is = h w outside p remaining s; path = refl; has_state = s.has_state };
+  keeps = record { frames = λ j l. refl; count = refl; scalars = refl; prints = refl };
   at_next = λ e. absurd cc;
 }
 
@@ -601,7 +601,7 @@ module _ (r : MainRun) (level : ℕ) (items : List ItemCode) (next : Frame) wher
       → HasDone level items next (Ok (Some (Declare field n))) r (record r { frames = frames_after })
   field_done field x d n e = record {
     done = λ w outside p remaining s. field_step w r level outside items p remaining s d.innermost d.frame d.at next d.next_is field x d.item n e;
-    keeps = keeps_below level r (record r { frames = frames_after }) next refl;
+    keeps = keeps_shape level r (record r { frames = frames_after }) next refl refl refl;
     at_next = λ e. absurd cc;
   }
 
@@ -618,7 +618,7 @@ module _ (r : MainRun) (level : ℕ) (items : List ItemCode) (next : Frame) wher
       → HasDone level items next (Ok None) r (record r { scalars = slice_set r.scalars scalar n; frames = frames_after })
   scalar_done scalar x d n e = record {
     done = λ w outside p remaining s. scalar_step w r level outside items p remaining s d.innermost d.frame d.at next d.next_is scalar x d.item n e;
-    keeps = keeps_below level r (record r { scalars = slice_set r.scalars scalar n; frames = frames_after }) next refl;
+    keeps = keeps_shape level r (record r { scalars = slice_set r.scalars scalar n; frames = frames_after }) next refl (length_set r.scalars scalar n) refl;
     at_next = λ e. set_here r.frames level next (slice_get_within r.frames level d.frame d.at);
   }
 
@@ -635,7 +635,8 @@ module _ (r : MainRun) (level : ℕ) (items : List ItemCode) (next : Frame) wher
       → HasDone level items next (Ok None) r (record r { scalars = slice_set r.scalars scalar (assigned_value how (get_or r.scalars scalar (pos 0)) n); frames = frames_after })
   assign_done scalar how x d n e = record {
     done = λ w outside p remaining s. assign_step w r level outside items p remaining s d.innermost d.frame d.at next d.next_is scalar how x d.item n e;
-    keeps = keeps_below level r (record r { scalars = slice_set r.scalars scalar (assigned_value how (get_or r.scalars scalar (pos 0)) n); frames = frames_after }) next refl;
+    keeps = keeps_shape level r (record r { scalars = slice_set r.scalars scalar (assigned_value how (get_or r.scalars scalar (pos 0)) n); frames = frames_after }) next refl
+        (length_set r.scalars scalar (assigned_value how (get_or r.scalars scalar (pos 0)) n)) refl;
     at_next = λ e. set_here r.frames level next (slice_get_within r.frames level d.frame d.at);
   }
 
@@ -654,14 +655,14 @@ module _ (r : MainRun) (level : ℕ) (items : List ItemCode) (next : Frame) wher
       → HasDone level items next (Ok None) r (record r { prints = slice_set r.prints r.printed n; printed = suc r.printed; frames = frames_after })
   print_done place x d n e l = record {
     done = λ w outside p remaining s. print_step w r level outside items p remaining s d.innermost d.frame d.at next d.next_is place x d.item n e l;
-    keeps = keeps_below level r (record r { prints = slice_set r.prints r.printed n; printed = suc r.printed; frames = frames_after }) next refl;
+    keeps = keeps_shape level r (record r { prints = slice_set r.prints r.printed n; printed = suc r.printed; frames = frames_after }) next refl refl (length_set r.prints r.printed n);
     at_next = λ e. set_here r.frames level next (slice_get_within r.frames level d.frame d.at);
   }
 
   pub reach_done : (k : ℕ) → CanDo r level items next (code.For k) → HasDone level items next (Ok (Some (Comp k))) r (record r { frames = frames_after })
   reach_done k d = record {
     done = λ w outside p remaining s. reach_step w r level outside items p remaining s d.innermost d.frame d.at next d.next_is k d.item;
-    keeps = keeps_below level r (record r { frames = frames_after }) next refl;
+    keeps = keeps_shape level r (record r { frames = frames_after }) next refl refl refl;
     at_next = λ e. absurd cc;
   }
 
@@ -669,14 +670,17 @@ module _ (r : MainRun) (level : ℕ) (items : List ItemCode) (next : Frame) wher
   abbrev frames_opened : Frame → Bool → List Frame
   frames_opened frame after_else = slice_set (slice_set r.frames level (record { index = frame.index; after_else = after_else })) (suc level) (record { index = 0; after_else = false })
 
-  pub keeps_opened : (after : MainRun) (frame : Frame) (after_else : Bool) → after.frames ≡ frames_opened frame after_else → KeepsBelow level r after
-  keeps_opened after frame after_else is = record {
+  pub keeps_opened : (after : MainRun) (frame : Frame) (after_else : Bool) → after.frames ≡ frames_opened frame after_else → length after.scalars ≡ length r.scalars → length after.prints ≡ length r.prints
+      → KeepsShape level r after
+  keeps_opened after frame after_else is scalars prints = record {
     frames = λ j l. ap (λ frames. slice_get frames j) is
         ∙ set_there (slice_set r.frames level (record { index = frame.index; after_else = after_else })) (suc level) j (record { index = 0; after_else = false }) (λ same. absurd (omega (arith, same, l)))
         ∙ set_there r.frames level j (record { index = frame.index; after_else = after_else }) (λ same. absurd (omega (arith, same, l)));
     count = ap (λ frames. length frames) is
         ∙ length_set (slice_set r.frames level (record { index = frame.index; after_else = after_else })) (suc level) (record { index = 0; after_else = false })
         ∙ length_set r.frames level (record { index = frame.index; after_else = after_else });
+    scalars = scalars;
+    prints = prints;
   }
 
   module _ (x : TruthCode) (first : BlockCode) (second : Option BlockCode) (d : CanDo r level items next (code.If x first second)) where
@@ -693,7 +697,7 @@ module _ (r : MainRun) (level : ℕ) (items : List ItemCode) (next : Frame) wher
         → HasDone level items next (Ok (Some (Enter first.scope))) r (record r { frames = frames_opened d.frame false; depth = suc (suc level) })
     first_done e = record {
       done = λ w outside p remaining s. first_step w r level outside items p remaining s d.innermost d.frame d.at next d.next_is x first second d.item e;
-      keeps = keeps_opened (record r { frames = frames_opened d.frame false; depth = suc (suc level) }) d.frame false refl;
+      keeps = keeps_opened (record r { frames = frames_opened d.frame false; depth = suc (suc level) }) d.frame false refl refl refl;
       at_next = λ e. absurd cc;
     }
 
@@ -701,14 +705,14 @@ module _ (r : MainRun) (level : ℕ) (items : List ItemCode) (next : Frame) wher
         → HasDone level items next (Ok (Some (Enter block.scope))) r (record r { frames = frames_opened d.frame true; depth = suc (suc level) })
     second_done block there e = record {
       done = λ w outside p remaining s. second_step w r level outside items p remaining s d.innermost d.frame d.at next d.next_is x first second d.item block there e;
-      keeps = keeps_opened (record r { frames = frames_opened d.frame true; depth = suc (suc level) }) d.frame true refl;
+      keeps = keeps_opened (record r { frames = frames_opened d.frame true; depth = suc (suc level) }) d.frame true refl refl refl;
       at_next = λ e. absurd cc;
     }
 
     pub neither_done : second ≡ None → main_truth r.scalars x ≡ Ok false → HasDone level items next (Ok None) r (record r { frames = frames_after })
     neither_done there e = record {
       done = λ w outside p remaining s. neither_step w r level outside items p remaining s d.innermost d.frame d.at next d.next_is x first second d.item there e;
-      keeps = keeps_below level r (record r { frames = frames_after }) next refl;
+      keeps = keeps_shape level r (record r { frames = frames_after }) next refl refl refl;
       at_next = λ e. set_here r.frames level next (slice_get_within r.frames level d.frame d.at);
     }
 
@@ -725,7 +729,7 @@ module _ (r : MainRun) (level : ℕ) (items : List ItemCode) (next : Frame) wher
     pub ended_done : main_truth r.scalars x ≡ Ok false → HasDone level items next (Ok None) r (record r { frames = frames_after })
     ended_done e = record {
       done = λ w outside p remaining s. ended_step w r level outside items p remaining s d.innermost d.frame d.at next d.next_is place x body d.item e;
-      keeps = keeps_below level r (record r { frames = frames_after }) next refl;
+      keeps = keeps_shape level r (record r { frames = frames_after }) next refl refl refl;
       at_next = λ e. set_here r.frames level next (slice_get_within r.frames level d.frame d.at);
     }
 
@@ -737,6 +741,6 @@ module _ (r : MainRun) (level : ℕ) (items : List ItemCode) (next : Frame) wher
         → HasDone level items next (Ok (Some (Enter body.scope))) r (record r { turns = turns; frames = frames_opened d.frame false; depth = suc (suc level) })
     turn_done turns some e = record {
       done = λ w outside p remaining s. turn_step w r level outside items p remaining s d.innermost d.frame d.at next d.next_is place x body d.item turns some e;
-      keeps = keeps_opened (record r { turns = turns; frames = frames_opened d.frame false; depth = suc (suc level) }) d.frame false refl;
+      keeps = keeps_opened (record r { turns = turns; frames = frames_opened d.frame false; depth = suc (suc level) }) d.frame false refl refl refl;
       at_next = λ e. absurd cc;
     }

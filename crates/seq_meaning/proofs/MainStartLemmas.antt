@@ -12,10 +12,11 @@ use Rattle.phase_types.specs.Environments.{start}
 use Rattle.phase_types.proofs.CheckedLemmas.{checked_is_typed, checked_parts}
 use Rattle.kernel_eval.specs.Iterations.{end_of}
 use Rattle.kernel_eval.specs.Outcomes.{Stop, NoMeaning, Done}
-use Rattle.seq_meaning.specs.MainRuns.{MainRun, Frame, AtItem, IsPreparedRun, HasBegunRun, HasOpened}
+use Rattle.seq_meaning.specs.MainRuns.{MainRun, Frame, AtItem, KeepsShape, IsPreparedRun, HasBegunRun, HasOpened}
 use Rattle.seq_meaning.specs.Runs.{main_meaning, run}
 use Rattle.seq_meaning.specs.declared.main_run.MainStep.TheVariants.{Enter}
 use Rattle.seq_meaning.proofs.ItemCodeLemmas.{checked_is_code}
+use Rattle.seq_meaning.proofs.MainHereLemmas.{keeps_shape}
 use Rattle.seq_meaning.proofs.MainStepLemmas.{set_here, length_set}
 use Rattle.seq_meaning.proofs.TypedRunLemmas.{run_ends}
 
@@ -51,3 +52,14 @@ opened mesh program turns checked r after is_mesh is begun prepared same =
         };
       };
     }
+
+-- it remains prepared
+pub still_prepared : {level : ℕ} {r after : MainRun} (checked : CheckedProgram) → KeepsShape level r after → IsPreparedRun checked r → IsPreparedRun checked after
+still_prepared checked keeps prepared = record {
+  scalars = keeps.scalars ∙ prepared.scalars;
+  prints = keeps.prints ∙ prepared.prints;
+  frames = omega (arith, prepared.frames, keeps.count);
+}
+
+pub opened_shape : (r after : MainRun) → after ≡ record r { frames = slice_set r.frames 0 first_frame; depth = 1 } → KeepsShape 0 r after
+opened_shape r after is = subst (KeepsShape 0 r) (sym is) (keeps_shape 0 r (record r { frames = slice_set r.frames 0 first_frame; depth = 1 }) first_frame refl refl refl)

@@ -113,10 +113,12 @@ pub record StandsAt (w : World) (r : MainRun) (level : ℕ) (outside : List ℕ)
   pub room : level + deepest items < length r.frames
   pub has_meaning : (remaining p).answer ≢ Err NoMeaning
 
--- no more than the frames from a level on is changed
-pub record KeepsBelow (level : ℕ) (r after : MainRun) : Type 0 where
+-- the frames below a level are unchanged, and so are the numbers of frames, scalars and prints
+pub record KeepsShape (level : ℕ) (r after : MainRun) : Type 0 where
   pub frames : (j : ℕ) → j < level → slice_get after.frames j ≡ slice_get r.frames j
   pub count : length after.frames ≡ length r.frames
+  pub scalars : length after.scalars ≡ length r.scalars
+  pub prints : length after.prints ≡ length r.prints
 
 -- a state after which an event is logged, and the progress then
 abbrev pub logged : Event → Progress → Progress
@@ -151,7 +153,7 @@ pub record Traps (w : World) (trap : Trap) (p : Progress) (remaining : Computati
   pub later : Progress
   pub is : remaining p ≡ halt (Trapped trap) later
   pub path : later.path ≡ p.path
-  pub prints : later.state.prints ≡ take after.printed after.prints
+  pub has_state : HasState w after later.state
 
 -- it reaches the end of the block
 pub record Ends (w : World) (outside : List ℕ) (p : Progress) (remaining : Computation Progress Done) (after : MainRun) : Type 0 where
@@ -239,7 +241,7 @@ pub record CanDo (r : MainRun) (level : ℕ) (items : List ItemCode) (next : Fra
 pub record HasDone (level : ℕ) (items : List ItemCode) (next : Frame) (result : Result (Option MainStep) Trap) (r after : MainRun) : Type 0 where
   pub done : (w : World) (outside : List ℕ) (p : Progress) (remaining : Computation Progress Done) → StandsAt w r level outside items p remaining
       → HasDoneItem w level outside items p remaining result r after
-  pub keeps : KeepsBelow level r after
+  pub keeps : KeepsShape level r after
   pub at_next : result ≡ Ok None → slice_get after.frames level ≡ Some next
 
 -- the frames after an inner block is left

@@ -13,7 +13,7 @@ ghost use Rattle.phase_types.specs.declared.state.CheckedProgram.{CheckedProgram
 ghost use Rattle.kernel_eval.specs.Outcomes.{Computation, Done};
 ghost use Rattle.resolved_code.specs.declared.items.ItemCode.{out-ItemCode};
 ghost use Rattle.resolved_code.specs.declared.items.ItemCode.TheVariants as Code;
-ghost use Rattle.seq_meaning.specs.MainRuns.{CanAdvance, CanDo, CanContinue, HasDone, HasAdvanced, HasDoneItem, HasBegunRun, HasNext, HasOpened, HasPrinted, HasTakenTurn, IsAt, IsPreparedRun, KeepsBelow, StandsAt, World, block_at, block_in, deepest, frames_left, nested, next_frame};
+ghost use Rattle.seq_meaning.specs.MainRuns.{CanAdvance, CanDo, CanContinue, HasDone, HasAdvanced, HasDoneItem, HasBegunRun, HasNext, HasOpened, HasPrinted, HasTakenTurn, IsAt, IsPreparedRun, KeepsShape, StandsAt, World, block_at, block_in, deepest, frames_left, nested, next_frame};
 ghost use Rattle.seq_meaning.specs.Runs.{Progress};
 
 use crate::values::{main_trap, number, scalar_at, truth};
@@ -410,7 +410,7 @@ impl MainRun {
             (remaining : Computation Progress Done)
             → StandsAt w self.old level outside items.now p remaining
             → HasAdvanced w level outside items.now p remaining result self.new }
-        ensures keeps { KeepsBelow level self.old self.new }
+        ensures keeps { KeepsShape level self.old self.new }
     {
         loop {
             let frame = self.frame(level);
@@ -441,7 +441,7 @@ impl MainRun {
             (remaining : Computation Progress Done)
             → StandsAt w self.old level outside items.now p remaining
             → HasAdvanced w level outside items.now p remaining result self.new }
-        ensures keeps { KeepsBelow level self.old self.new }
+        ensures keeps { KeepsShape level self.old self.new }
     {
         if level >= self.innermost() {
             return self.run_items(items, level);
@@ -524,10 +524,11 @@ impl MainRun {
     /// The next event of a program after its first one.
     fn next_event(&mut self, c: &Checked) -> MainStep
         requires { CanAdvance self.old 0 c.now.items }
-        ensures { (mesh : MeshLists) (program : Main) (turns : ℕ) (p : Progress)
+        ensures continued { (mesh : MeshLists) (program : Main) (turns : ℕ) (p : Progress)
             → (at : IsAt mesh program turns c.now.items p self.old)
             → HasNext (record { mesh = mesh; turns = turns; parts = parts_of program })
             c.now.items p at.remaining result self.new }
+        ensures keeps { KeepsShape 0 self.old self.new }
     {
         match self.advance(c.items(), 0) {
             Some(step) => step,
@@ -565,6 +566,7 @@ impl MainRun {
             → (at : IsAt mesh program turns c.now.items p self.old)
             → HasNext (record { mesh = mesh; turns = turns; parts = parts_of program })
             c.now.items p at.remaining result self.new }
+        ensures prepared { IsPreparedRun c.now self.old → IsPreparedRun c.now self.new }
     {
         if self.depth == 0 {
             self.open();

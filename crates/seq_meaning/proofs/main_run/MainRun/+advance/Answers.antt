@@ -1,6 +1,6 @@
 use Rattle.std.proofs.Common.{◌≡◌, ◌<◌, ◌+◌, ℕ, suc, arith, sym, subst}
 use Rattle.std.specs.Prelude.{Some, None}
-use Rattle.seq_meaning.specs.MainRuns.{InnerBlock, KeepsBelow, HasEvent, AreFewer, block_at}
+use Rattle.seq_meaning.specs.MainRuns.{InnerBlock, KeepsShape, HasEvent, AreFewer, block_at}
 use Rattle.seq_meaning.specs.Runs.{ScopeClosed}
 use Rattle.seq_meaning.proofs.MainAdvanceLemmas.{advances_at, keeps_at, can_at, can_inside, block_within, keeps_left, advances_around, leaves, stands_inside}
 use Rattle.seq_meaning.proofs.MainHereLemmas.{stands_below}
@@ -49,6 +49,6 @@ returns-clause-advanced t c = λ w outside p remaining s.
 
 pub returns-clause-keeps : goal.returns-clause-keeps
 returns-clause-keeps t c =
-    subst (KeepsBelow c.args.level c.args.self.now) (sym c.leave.ensures)
+    subst (KeepsShape c.args.level c.args.self.now) (sym c.leave.ensures)
     (keeps_left c.args.level c.args.self.now c.advance.new.self c.frame-frame.result c.in_ok-block.is_repeated
     (keeps_at c.args.self.now c.advance.new.self c.args.level (c.args.level + 1) (plus_one c.args.level) c.advance.ensures.keeps))

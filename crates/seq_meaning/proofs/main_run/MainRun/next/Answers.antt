@@ -1,6 +1,6 @@
 use Rattle.std.proofs.Common.{arith}
 use Rattle.seq_meaning.proofs.MainHereLemmas.{stands_below}
-use Rattle.seq_meaning.proofs.MainStartLemmas.{opened}
+use Rattle.seq_meaning.proofs.MainStartLemmas.{opened, opened_shape, still_prepared}
 use Rattle.seq_meaning.proofs.main_run.MainRun.next.Goals as goal
 
 pub returns-then-self-eq0-clause-opened : goal.returns-then-self-eq0-clause-opened
@@ -9,3 +9,9 @@ returns-then-self-eq0-clause-opened c = λ mesh program turns is_mesh is begun p
 
 pub returns-then-self-eq0-clause-continued : goal.returns-then-self-eq0-clause-continued
 returns-then-self-eq0-clause-continued c = λ mesh program turns p at. let l = stands_below at.stands.stands in absurd (omega (arith, l, c.if-self-eq0.true))
+
+pub returns-then-self-eq0-clause-prepared : goal.returns-then-self-eq0-clause-prepared
+returns-then-self-eq0-clause-prepared c = λ prepared. still_prepared c.args.c.now (opened_shape c.args.self.now c.open.new.self c.open.ensures) prepared
+
+pub returns-clause-prepared : goal.returns-clause-prepared
+returns-clause-prepared c = λ prepared. still_prepared c.args.c.now c.next_event.ensures.keeps prepared
