@@ -1,3 +1,4 @@
+pub mod EventCountLemmas
 pub mod IterationLemmas
 pub mod ItemCodeLemmas
 pub mod MainAdvanceLemmas

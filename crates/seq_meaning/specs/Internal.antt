@@ -1,2 +1,3 @@
 -- Definitions on which no public contract rests.
 pub mod Cases
+pub mod RunSteps
