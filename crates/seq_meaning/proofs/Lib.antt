@@ -1,4 +1,5 @@
 pub mod ComprehensionRunLemmas
+pub mod EventCountLemmas
 pub mod FieldStoreLemmas
 pub mod ItemCodeLemmas
 pub mod IterationLemmas

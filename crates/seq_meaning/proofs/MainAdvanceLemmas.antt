@@ -1,7 +1,8 @@
 -- A run of the main program continues in an inner block.
-use Rattle.std.proofs.Common.{◌≡◌, ◌<◌, ◌≤◌, ℕ, suc, ◌+◌, ◌-◌, Bool, true, false, List, ◌++◌, length, drop, refl, sym, ap, subst, ◌∙◌, arith}
+use Rattle.std.proofs.Common.{◌≡◌, ◌<◌, ◌≤◌, ℕ, suc, ◌+◌, ◌-◌, ◌*◌, Bool, true, false, List, ◌++◌, length, drop, refl, sym, ap, subst, ◌∙◌, arith}
 use Rattle.std.proofs.lemmas.List.{length-append, length-map}
-use Rattle.std.proofs.lemmas.Option.{slice_get_within}
+use Rattle.std.proofs.lemmas.Option.{slice_get_within, slice_get-get_or}
+use Rattle.std.specs.List.{slice_set}
 use Rattle.std.specs.Option.{option_and_then}
 use Rattle.std.specs.Prelude.{Option, Some, None, slice_get, Result, Ok, Err}
 use Rattle.liszt_base.specs.declared.answers.RunEnd.TheVariants.{Trap as EndTrap, Done as EndDone}
@@ -12,9 +13,13 @@ use Rattle.kernel_eval.specs.Outcomes.{Stop, Trapped, Outcome, Computation, Done
 use Rattle.kernel_eval.specs.States.{Fields, State, known_scalars}
 use Rattle.seq_meaning.specs.MainCode.{IsCode}
 use Rattle.seq_meaning.specs.MainRuns.{Frame, MainRun, InnerBlock, block_at, index_after, block_and_rest, deepest, frames_left, World, Descends, Stands, AtItem, InBlock, StandsAt, KeepsShape, HasEvent, Ends, HasAdvanced, AreSame, AreFewer, HaveOneMore, CanAdvance, block_in, next_frame, logged}
+use Rattle.seq_meaning.specs.RemainingEvents.{HasFewer, events_in}
+use Rattle.seq_meaning.specs.Internal.RunSteps.{CountsDown, events_at}
 use Rattle.seq_meaning.specs.Runs.{Event, ScopeOpened, ScopeClosed, FieldDeclared, ComprehensionReached, Progress, log_event, lift_state, modify_state, after_scope, all_or_nothing, comprehension, main_meaning}
 use Rattle.seq_meaning.specs.declared.main_run.MainStep.{MainStep}
 use Rattle.seq_meaning.specs.declared.main_run.MainStep.TheVariants.{Enter, Leave, Declare, Comp, Over}
+use Rattle.seq_meaning.proofs.EventCountLemmas.{events_here, events_inside}
+use Rattle.seq_meaning.proofs.MainBlockLemmas.{level_in}
 use Rattle.seq_meaning.proofs.MainHereLemmas.{stands_below}
 use Rattle.seq_meaning.proofs.MainStepLemmas.{set_here, set_there, length_set, drop_keys, drop_front, value_in_rest}
 
@@ -58,6 +63,13 @@ inside (InBlock {block = block} frame inner site rest before new at found stands
 pub at_level : {w : World} {frames : List Frame} {depth level : ℕ} {outside known : List ℕ} {items : List ItemCode} {remaining : Computation Progress Done}
     → Stands w frames depth level outside items known remaining → depth ≤ suc level → suc level ≡ depth
 at_level stands l = let b = stands_below stands in omega (arith, b, l)
+
+-- the events that remain of the items, by those of the open block in them
+events_around : {w : World} {level : ℕ} {outside known : List ℕ} {inner_items : List ItemCode} {remaining : Computation Progress Done} (worth : ℕ) (items : List ItemCode) (r : MainRun) (frame : Frame) (inner : InnerBlock)
+    → slice_get r.frames level ≡ Some frame → block_at items frame ≡ Some inner → Stands w r.frames r.depth (suc level) outside inner_items known remaining
+    → events_at worth level items r ≡ events_at worth (suc level) inner.block.items r + (1 + events_in (drop (index_after frame inner) items))
+events_around {level = level} worth items r frame inner at found stands =
+    events_inside worth level items r frame _ inner at (slice_get-get_or r.frames (suc level) frame (level_in stands)) (stands_below stands) found
 
 -- what is done after a block
 abbrev after_outcome : World → State → ℕ → Site → Main → Outcome Progress Done → Outcome Progress Done
@@ -154,6 +166,39 @@ module _ {w : World} {r : MainRun} {level : ℕ} {outside : List ℕ} {items : L
     advances_around (Over (EndTrap trap)) g = record { later = g.later; is = remaining_is (halt (Trapped trap) g.later) g.is; path = g.path; has_state = g.has_state }
     advances_around (Over EndDone) g = g
 
+    -- fewer events remain of the block, and so of the items around it
+    pub fewer_around : (worth : ℕ) (step : MainStep) → HasAdvanced w (suc level) (known_scalars inside_here.before) inner.block.items p inside_here.block (Some step) after
+        → HasFewer step (events_at worth (suc level) inner.block.items r) (events_at worth (suc level) inner.block.items after)
+        → HasFewer step (events_at worth level items r) (events_at worth level items after)
+    fewer_around worth step g h = go step g h where
+      frame_after : slice_get after.frames level ≡ Some frame
+      frame_after = keeps.frames level (omega arith) ∙ at
+
+      old : events_at worth level items r ≡ events_at worth (suc level) inner.block.items r + (1 + events_in (drop (index_after frame inner) items))
+      old = events_around worth items r frame inner at found stands_inside.stands
+
+      go : (step : MainStep) → HasAdvanced w (suc level) (known_scalars inside_here.before) inner.block.items p inside_here.block (Some step) after
+          → HasFewer step (events_at worth (suc level) inner.block.items r) (events_at worth (suc level) inner.block.items after)
+          → HasFewer step (events_at worth level items r) (events_at worth level items after)
+      go (Enter scope) g h = omega (arith, old, events_around worth items after frame inner frame_after found g.stands.stands, h)
+      go (Leave scope) g h = omega (arith, old, events_around worth items after frame inner frame_after found g.stands.stands, h)
+      go (Declare field value) g h = omega (arith, old, events_around worth items after frame inner frame_after found g.stands.stands, h)
+      go (Comp k) g h = omega (arith, old, events_around worth items after frame inner frame_after found g.stands, h)
+      go (Over end) g h = tt
+
+    pub fewer_left : (worth : ℕ) → events_at worth (suc level) inner.block.items after ≤ events_at worth (suc level) inner.block.items r
+        → events_at worth level items (record after { depth = suc level; frames = frames_left after.frames level frame inner.is_repeated }) < events_at worth level items r
+    fewer_left worth l =
+        omega (arith, l, left inner.is_repeated refl, events_around worth items r frame inner at found stands_inside.stands)
+      where
+        left : (repeated : Bool) → inner.is_repeated ≡ repeated
+            → events_at worth level items (record after { depth = suc level; frames = frames_left after.frames level frame repeated }) ≡ after.turns * worth + events_in (drop (index_after frame inner) items)
+        left true same = events_here worth level items (record after { depth = suc level }) frame (keeps.frames level (omega arith) ∙ at) refl
+            ∙ ap (λ repeated. after.turns * worth + events_in (drop (index_after frame (record { block = inner.block; is_repeated = repeated })) items)) (sym same)
+        left false same = events_here worth level items (record after { depth = suc level; frames = slice_set after.frames level (next_frame frame) }) (next_frame frame)
+            (set_here after.frames level (next_frame frame) (omega (arith, slice_get_within r.frames level frame at, keeps.count))) refl
+            ∙ ap (λ repeated. after.turns * worth + events_in (drop (index_after frame (record { block = inner.block; is_repeated = repeated })) items)) (sym same)
+
     -- the block ends
     pub leaves : Ends w (known_scalars inside_here.before) p inside_here.block after
         → HasEvent w (ScopeClosed inner.block.scope) AreFewer level outside items p remaining (record after { depth = suc level; frames = frames_left after.frames level frame inner.is_repeated })
@@ -228,6 +273,14 @@ pub advances_at : (r after : MainRun) (level next : ℕ) (items slice : List Ite
     → Advances r (suc level) items result after
 advances_at r after level next items slice result same_level same_items h =
     subst (λ items. Advances r (suc level) items result after) same_items (subst (λ level. Advances r level slice result after) same_level h)
+
+abbrev pub Counts : MainRun → ℕ → List ItemCode → Option MainStep → MainRun → Type 0
+Counts r level items result after = (worth : ℕ) → events_in items < worth → CountsDown result (events_at worth level items r) (events_at worth level items after)
+
+pub counts_at : (r after : MainRun) (level next : ℕ) (items slice : List ItemCode) (result : Option MainStep) → next ≡ suc level → slice ≡ items → Counts r next slice result after
+    → Counts r (suc level) items result after
+counts_at r after level next items slice result same_level same_items h =
+    subst (λ items. Counts r (suc level) items result after) same_items (subst (λ level. Counts r level slice result after) same_level h)
 
 pub keeps_at : (r after : MainRun) (level next : ℕ) → next ≡ suc level → KeepsShape next r after → KeepsShape (suc level) r after
 keeps_at r after level next same h = subst (λ level. KeepsShape level r after) same h

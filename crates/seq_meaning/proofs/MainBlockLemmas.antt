@@ -17,7 +17,7 @@ use Rattle.seq_meaning.specs.declared.main_run.MainStep.TheVariants.{Enter, Leav
 use Rattle.seq_meaning.proofs.MainHereLemmas.{Here, here}
 use Rattle.seq_meaning.proofs.MainStepLemmas.{drop_past}
 
-level_in : {w : World} {frames : List Frame} {depth level : ℕ} {outside known : List ℕ} {items : List ItemCode} {remaining : Computation Progress Done}
+pub level_in : {w : World} {frames : List Frame} {depth level : ℕ} {outside known : List ℕ} {items : List ItemCode} {remaining : Computation Progress Done}
     → Stands w frames depth level outside items known remaining → level < length frames
 level_in {frames = frames} {level = level} (AtItem frame site rest new at is code known_is descends) = slice_get_within frames level frame at
 level_in {frames = frames} {level = level} (InBlock frame inner site rest before new at is stands known_is descends code) = slice_get_within frames level frame at

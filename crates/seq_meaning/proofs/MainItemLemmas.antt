@@ -1,5 +1,5 @@
 -- One item of the main program, by its code.
-use Rattle.std.proofs.Common.{◌≡◌, ◌≢◌, ◌<◌, ◌≤◌, ℕ, suc, ◌+◌, Bool, true, false, List, [], ◌∷◌, ◌++◌, length, drop, append_assoc, refl, sym, ap, subst, ◌∙◌, arith}
+use Rattle.std.proofs.Common.{◌≡◌, ◌≢◌, ◌<◌, ◌≤◌, ℕ, suc, ◌+◌, ◌*◌, Bool, true, false, List, [], ◌∷◌, ◌++◌, length, drop, append_assoc, refl, sym, ap, subst, ◌∙◌, arith}
 use Rattle.std.proofs.lemmas.Bool.{lt-ltb, le-ltb}
 use Rattle.std.proofs.lemmas.Option.{slice_get_within}
 use Rattle.std.proofs.Math.Nat.{le-max_left}
@@ -25,10 +25,13 @@ use Rattle.kernel_eval.specs.Outcomes.{Stop, Trapped, NoMeaning, Outcome, Comput
 use Rattle.kernel_eval.specs.States.{scalar_value, with_scalar_value, known_scalars, main_evaluation}
 use Rattle.kernel_eval.specs.Meaning.{assigned_value, trap, number_in, truth_in}
 use Rattle.seq_meaning.specs.MainCode.{IsNumberCode, IsTruthCode, IsCode}
-use Rattle.seq_meaning.specs.MainRuns.{Frame, MainRun, World, Descends, Stands, AtItem, InBlock, block_and_rest, block_in, block_at, index_after, nested, deepest, HasState, StandsAt, HasEvent, Reaches, Traps, Continues, HaveOneMore, AreSame, logged, next_frame, KeepsShape, CanDo, HasDone}
+use Rattle.seq_meaning.specs.MainRuns.{Frame, MainRun, World, Descends, Stands, AtItem, InBlock, block_and_rest, block_in, block_at, index_after, nested, deepest, HasState, StandsAt, HasEvent, Reaches, Traps, Continues, HaveOneMore, AreSame, logged, next_frame, KeepsShape, CanDo}
+use Rattle.seq_meaning.specs.RemainingEvents.{event_count, events_in}
+use Rattle.seq_meaning.specs.Internal.RunSteps.{HasDone, events_at}
 use Rattle.seq_meaning.specs.declared.main_run.MainStep.TheVariants.{Enter, Declare, Comp}
 use Rattle.seq_meaning.specs.MainValues.{main_trap, main_number, main_truth}
 use Rattle.seq_meaning.specs.Runs.{Progress, ScopeOpened, in_scope, program_turns, item_meaning, assign_main_name, assign_main_scalar, print_number, in_program, FieldDeclared, main_meaning, number_at, truth_at, modify_state, log_event, with_field, with_scalar}
+use Rattle.seq_meaning.proofs.EventCountLemmas.{count_field, count_for, count_first, count_second, count_while, events_from, events_of_item, events_here, events_moved, events_opened, turn_taken}
 use Rattle.seq_meaning.proofs.MainHereLemmas.{Here, here, code_here, at_next, keeps_shape, scalars_after_item, FieldHere, field_here, VarHere, var_here, AssignHere, assign_here, PrintHere, print_here, ForHere, for_here, WhileHere, while_here, ElseHere, IfHere, if_here, out_if, out_while, block_descends}
 use Rattle.kernel_eval.specs.HeldFields.{HoldsScalars}
 use Rattle.kernel_eval.proofs.LoopLemmas.{loop_is}
@@ -584,12 +587,18 @@ pub traps_there : (r : MainRun) (level : ℕ) (items : List ItemCode) (next : Fr
 traps_there r level items next t h = record {
   done = λ w outside p remaining s. record { later = p; is = h w outside p remaining s; path = refl; has_state = s.has_state };
   keeps = record { frames = λ j l. refl; count = refl; scalars = refl; prints = refl };
+  fewer = λ worth l. tt;
   at_next = λ e. absurd cc;
 }
 
 module _ (r : MainRun) (level : ℕ) (items : List ItemCode) (next : Frame) where
   abbrev frames_after : List Frame
   frames_after = slice_set r.frames level next
+
+  -- the items from the next one on, and those of an item that is done
+  moved_on : (worth : ℕ) (c : ItemCode) (after : MainRun) → CanDo r level items next c → after.frames ≡ frames_after → after.depth ≡ r.depth → after.turns ≡ r.turns
+      → events_at worth level items after + event_count c ≡ events_at worth level items r
+  moved_on worth c after d = events_moved worth level items next c r after d (slice_get_within r.frames level d.frame d.at)
 
   pub field_means : (field : ℕ) (x : NumberCode) → CanDo r level items next (code.Field field x) → main_number r.scalars x ≢ Err NoMeaning
   field_means field x d = (field_value d.can.w r level d.can.outside items d.can.p d.can.remaining d.can.stands d.innermost d.frame d.at next d.next_is field x d.item).has_meaning
@@ -602,6 +611,7 @@ module _ (r : MainRun) (level : ℕ) (items : List ItemCode) (next : Frame) wher
   field_done field x d n e = record {
     done = λ w outside p remaining s. field_step w r level outside items p remaining s d.innermost d.frame d.at next d.next_is field x d.item n e;
     keeps = keeps_shape level r (record r { frames = frames_after }) next refl refl refl;
+    fewer = λ worth l. omega (arith, moved_on worth (code.Field field x) (record r { frames = frames_after }) d refl refl refl, count_field field x);
     at_next = λ e. absurd cc;
   }
 
@@ -619,6 +629,7 @@ module _ (r : MainRun) (level : ℕ) (items : List ItemCode) (next : Frame) wher
   scalar_done scalar x d n e = record {
     done = λ w outside p remaining s. scalar_step w r level outside items p remaining s d.innermost d.frame d.at next d.next_is scalar x d.item n e;
     keeps = keeps_shape level r (record r { scalars = slice_set r.scalars scalar n; frames = frames_after }) next refl (length_set r.scalars scalar n) refl;
+    fewer = λ worth l. omega (arith, moved_on worth (code.Var scalar x) (record r { scalars = slice_set r.scalars scalar n; frames = frames_after }) d refl refl refl);
     at_next = λ e. set_here r.frames level next (slice_get_within r.frames level d.frame d.at);
   }
 
@@ -637,6 +648,7 @@ module _ (r : MainRun) (level : ℕ) (items : List ItemCode) (next : Frame) wher
     done = λ w outside p remaining s. assign_step w r level outside items p remaining s d.innermost d.frame d.at next d.next_is scalar how x d.item n e;
     keeps = keeps_shape level r (record r { scalars = slice_set r.scalars scalar (assigned_value how (get_or r.scalars scalar (pos 0)) n); frames = frames_after }) next refl
         (length_set r.scalars scalar (assigned_value how (get_or r.scalars scalar (pos 0)) n)) refl;
+    fewer = λ worth l. omega (arith, moved_on worth (code.Assign scalar how x) (record r { scalars = slice_set r.scalars scalar (assigned_value how (get_or r.scalars scalar (pos 0)) n); frames = frames_after }) d refl refl refl);
     at_next = λ e. set_here r.frames level next (slice_get_within r.frames level d.frame d.at);
   }
 
@@ -656,6 +668,7 @@ module _ (r : MainRun) (level : ℕ) (items : List ItemCode) (next : Frame) wher
   print_done place x d n e l = record {
     done = λ w outside p remaining s. print_step w r level outside items p remaining s d.innermost d.frame d.at next d.next_is place x d.item n e l;
     keeps = keeps_shape level r (record r { prints = slice_set r.prints r.printed n; printed = suc r.printed; frames = frames_after }) next refl refl (length_set r.prints r.printed n);
+    fewer = λ worth l. omega (arith, moved_on worth (code.Print place x) (record r { prints = slice_set r.prints r.printed n; printed = suc r.printed; frames = frames_after }) d refl refl refl);
     at_next = λ e. set_here r.frames level next (slice_get_within r.frames level d.frame d.at);
   }
 
@@ -663,6 +676,7 @@ module _ (r : MainRun) (level : ℕ) (items : List ItemCode) (next : Frame) wher
   reach_done k d = record {
     done = λ w outside p remaining s. reach_step w r level outside items p remaining s d.innermost d.frame d.at next d.next_is k d.item;
     keeps = keeps_shape level r (record r { frames = frames_after }) next refl refl refl;
+    fewer = λ worth l. omega (arith, moved_on worth (code.For k) (record r { frames = frames_after }) d refl refl refl, count_for k);
     at_next = λ e. absurd cc;
   }
 
@@ -693,11 +707,27 @@ module _ (r : MainRun) (level : ℕ) (items : List ItemCode) (next : Frame) wher
     pub if_traps : (t : Trap) → main_truth r.scalars x ≡ Err (Trapped t) → HasDone level items next (Err t) r r
     if_traps t e = traps_there r level items next t (λ w outside p remaining s. (if_value w r level outside items p remaining s d.innermost d.frame d.at next d.next_is x first second d.item).trap t e)
 
+    if_outer : (after_else : Bool) → slice_get (frames_opened d.frame after_else) level ≡ Some (record { index = d.frame.index; after_else = after_else })
+    if_outer after_else = outer_frame d.can.w r level d.can.outside items d.can.p d.can.remaining d.can.stands d.innermost d.frame d.at next d.next_is after_else
+
+    if_inner : (after_else : Bool) → slice_get (frames_opened d.frame after_else) (suc level) ≡ Some (record { index = 0; after_else = false })
+    if_inner after_else = inner_frame d.can.w r level d.can.outside items d.can.p d.can.remaining d.can.stands d.innermost d.frame d.at next d.next_is after_else if_has_room
+
+    if_block : (after_else : Bool) → block_at items (record { index = d.frame.index; after_else = after_else }) ≡ block_in (ItemCode-F.If x first second) after_else
+    if_block after_else = block_of d.can.w r level d.can.outside items d.can.p d.can.remaining d.can.stands d.innermost d.frame d.at next d.next_is x first second d.item after_else
+
+    if_before : (worth : ℕ) → events_at worth level items r ≡ r.turns * worth + (event_count (code.If x first second) + events_in (drop (suc d.frame.index) items))
+    if_before worth = events_here worth level items r d.frame d.at d.innermost ∙ ap (λ n. r.turns * worth + n) (events_from items d.frame.index (code.If x first second) d.item)
+
     pub first_done : main_truth r.scalars x ≡ Ok true
         → HasDone level items next (Ok (Some (Enter first.scope))) r (record r { frames = frames_opened d.frame false; depth = suc (suc level) })
     first_done e = record {
       done = λ w outside p remaining s. first_step w r level outside items p remaining s d.innermost d.frame d.at next d.next_is x first second d.item e;
       keeps = keeps_opened (record r { frames = frames_opened d.frame false; depth = suc (suc level) }) d.frame false refl refl refl;
+      fewer = λ worth l.
+          let a = events_opened worth level items (record r { frames = frames_opened d.frame false; depth = suc (suc level) }) (record { index = d.frame.index; after_else = false }) (record { index = 0; after_else = false })
+          (record { block = first; is_repeated = false }) (if_outer false) (if_inner false) refl refl (if_block false) in
+          omega (arith, a, if_before worth, count_first x first second);
       at_next = λ e. absurd cc;
     }
 
@@ -706,6 +736,11 @@ module _ (r : MainRun) (level : ℕ) (items : List ItemCode) (next : Frame) wher
     second_done block there e = record {
       done = λ w outside p remaining s. second_step w r level outside items p remaining s d.innermost d.frame d.at next d.next_is x first second d.item block there e;
       keeps = keeps_opened (record r { frames = frames_opened d.frame true; depth = suc (suc level) }) d.frame true refl refl refl;
+      fewer = λ worth l.
+          let a = events_opened worth level items (record r { frames = frames_opened d.frame true; depth = suc (suc level) }) (record { index = d.frame.index; after_else = true }) (record { index = 0; after_else = false })
+          (record { block = block; is_repeated = false }) (if_outer true) (if_inner true) refl refl (if_block true ∙ ap (λ second. block_in (ItemCode-F.If x first second) true) there) in
+          let b : 2 + events_in block.items ≤ event_count (code.If x first second) = subst (λ second. 2 + events_in block.items ≤ event_count (code.If x first second)) (sym there) (count_second x first block) in
+          omega (arith, a, if_before worth, b);
       at_next = λ e. absurd cc;
     }
 
@@ -713,6 +748,7 @@ module _ (r : MainRun) (level : ℕ) (items : List ItemCode) (next : Frame) wher
     neither_done there e = record {
       done = λ w outside p remaining s. neither_step w r level outside items p remaining s d.innermost d.frame d.at next d.next_is x first second d.item there e;
       keeps = keeps_shape level r (record r { frames = frames_after }) next refl refl refl;
+      fewer = λ worth l. omega (arith, moved_on worth (code.If x first second) (record r { frames = frames_after }) d refl refl refl);
       at_next = λ e. set_here r.frames level next (slice_get_within r.frames level d.frame d.at);
     }
 
@@ -726,10 +762,20 @@ module _ (r : MainRun) (level : ℕ) (items : List ItemCode) (next : Frame) wher
     pub while_traps : (t : Trap) → main_truth r.scalars x ≡ Err (Trapped t) → HasDone level items next (Err t) r r
     while_traps t e = traps_there r level items next t (λ w outside p remaining s. (while_value w r level outside items p remaining s d.innermost d.frame d.at next d.next_is place x body d.item).trap t e)
 
+    while_outer : slice_get (frames_opened d.frame false) level ≡ Some (record { index = d.frame.index; after_else = false })
+    while_outer = outer_frame d.can.w r level d.can.outside items d.can.p d.can.remaining d.can.stands d.innermost d.frame d.at next d.next_is false
+
+    while_inner : slice_get (frames_opened d.frame false) (suc level) ≡ Some (record { index = 0; after_else = false })
+    while_inner = inner_frame d.can.w r level d.can.outside items d.can.p d.can.remaining d.can.stands d.innermost d.frame d.at next d.next_is false while_has_room
+
+    while_block_at : block_at items (record { index = d.frame.index; after_else = false }) ≡ Some (record { block = body; is_repeated = true })
+    while_block_at = body_at d.can.w r level d.can.outside items d.can.p d.can.remaining d.can.stands d.innermost d.frame d.at next d.next_is place x body d.item
+
     pub ended_done : main_truth r.scalars x ≡ Ok false → HasDone level items next (Ok None) r (record r { frames = frames_after })
     ended_done e = record {
       done = λ w outside p remaining s. ended_step w r level outside items p remaining s d.innermost d.frame d.at next d.next_is place x body d.item e;
       keeps = keeps_shape level r (record r { frames = frames_after }) next refl refl refl;
+      fewer = λ worth l. omega (arith, moved_on worth (code.While place x body) (record r { frames = frames_after }) d refl refl refl);
       at_next = λ e. set_here r.frames level next (slice_get_within r.frames level d.frame d.at);
     }
 
@@ -742,5 +788,11 @@ module _ (r : MainRun) (level : ℕ) (items : List ItemCode) (next : Frame) wher
     turn_done turns some e = record {
       done = λ w outside p remaining s. turn_step w r level outside items p remaining s d.innermost d.frame d.at next d.next_is place x body d.item turns some e;
       keeps = keeps_opened (record r { turns = turns; frames = frames_opened d.frame false; depth = suc (suc level) }) d.frame false refl refl refl;
+      fewer = λ worth l.
+          let a = events_opened worth level items (record r { turns = turns; frames = frames_opened d.frame false; depth = suc (suc level) }) (record { index = d.frame.index; after_else = false }) (record { index = 0; after_else = false })
+          (record { block = body; is_repeated = true }) while_outer while_inner refl refl while_block_at in
+          let b : events_at worth level items r ≡ r.turns * worth + events_in (drop d.frame.index items) = events_here worth level items r d.frame d.at d.innermost in
+          let c : event_count (code.While place x body) ≤ events_in items = events_of_item items d.frame.index (code.While place x body) d.item in
+          omega (arith, l, a, b, c, count_while place x body, turn_taken r.turns turns worth some);
       at_next = λ e. absurd cc;
     }

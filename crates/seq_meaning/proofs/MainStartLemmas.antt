@@ -1,21 +1,25 @@
 -- A run of the main program stands at its start.
-use Rattle.std.proofs.Common.{◌≡◌, ◌≢◌, ℕ, true, false, [], length, take, refl, sym, ap, subst, ◌∙◌, arith}
+use Rattle.std.proofs.Common.{◌≡◌, ◌≢◌, ◌<◌, ℕ, ◌+◌, ◌*◌, true, false, List, [], length, take, refl, sym, ap, subst, ◌∙◌, inl, inr, arith}
 use Rattle.std.specs.List.{slice_set}
 use Rattle.std.specs.Prelude.{is_some, Result, Ok, Err}
 use Rattle.liszt_base.specs.Corners.{IsMesh}
 use Rattle.liszt_base.specs.MeshLists.{MeshLists}
 use Rattle.liszt_tree.specs.Tree.{Main}
 use Rattle.mesh_topology.specs.Elements.{corner_lists}
+use Rattle.resolved_code.specs.declared.items.ItemCode.{ItemCode}
 use Rattle.phase_types.specs.declared.state.CheckedProgram.{CheckedProgram}
 use Rattle.phase_types.specs.Checked.{checked_program}
 use Rattle.phase_types.specs.Environments.{start}
 use Rattle.phase_types.proofs.CheckedLemmas.{checked_is_typed, checked_parts}
 use Rattle.kernel_eval.specs.Iterations.{end_of}
 use Rattle.kernel_eval.specs.Outcomes.{Stop, NoMeaning, Done}
-use Rattle.seq_meaning.specs.MainRuns.{MainRun, Frame, AtItem, KeepsShape, IsPreparedRun, HasBegunRun, HasOpened}
+use Rattle.seq_meaning.specs.MainRuns.{MainRun, Frame, AtItem, KeepsShape, IsPreparedRun, HasBegunRun, HasOpened, CanContinue}
+use Rattle.seq_meaning.specs.RemainingEvents.{events_in, events_left, remaining_events}
 use Rattle.seq_meaning.specs.Runs.{main_meaning, run}
 use Rattle.seq_meaning.specs.declared.main_run.MainStep.TheVariants.{Enter}
+use Rattle.seq_meaning.proofs.EventCountLemmas.{events_here}
 use Rattle.seq_meaning.proofs.ItemCodeLemmas.{checked_is_code}
+use Rattle.seq_meaning.proofs.MainBlockLemmas.{level_within}
 use Rattle.seq_meaning.proofs.MainHereLemmas.{keeps_shape}
 use Rattle.seq_meaning.proofs.MainStepLemmas.{set_here, length_set}
 use Rattle.seq_meaning.proofs.TypedRunLemmas.{run_ends}
@@ -63,3 +67,16 @@ still_prepared checked keeps prepared = record {
 
 pub opened_shape : (r after : MainRun) → after ≡ record r { frames = slice_set r.frames 0 first_frame; depth = 1 } → KeepsShape 0 r after
 opened_shape r after is = subst (KeepsShape 0 r) (sym is) (keeps_shape 0 r (record r { frames = slice_set r.frames 0 first_frame; depth = 1 }) first_frame refl refl refl)
+
+-- the first event makes fewer events remain
+pub has_frames : (checked : CheckedProgram) (r : MainRun) → CanContinue checked r → 0 < length r.frames
+has_frames checked r (inl start) = omega (arith, start.1.frames)
+has_frames checked r (inr can) = level_within can
+
+pub opened_fewer : (items : List ItemCode) (r after : MainRun) → r.depth ≡ 0 → 0 < length r.frames → after ≡ record r { frames = slice_set r.frames 0 first_frame; depth = 1 }
+    → remaining_events items after < remaining_events items r
+opened_fewer items r after depth room is =
+    let old : remaining_events items r ≡ r.turns * (1 + events_in items) + (1 + events_in items) = ap (λ depth. r.turns * (1 + events_in items) + events_left items (take depth r.frames)) depth in
+    let new : remaining_events items (record r { frames = slice_set r.frames 0 first_frame; depth = 1 }) ≡ r.turns * (1 + events_in items) + events_in items =
+    events_here (1 + events_in items) 0 items (record r { frames = slice_set r.frames 0 first_frame; depth = 1 }) first_frame (set_here r.frames 0 first_frame room) refl in
+    subst (λ after. remaining_events items after < remaining_events items r) (sym is) (omega (arith, old, new))

@@ -238,12 +238,6 @@ pub record CanDo (r : MainRun) (level : ℕ) (items : List ItemCode) (next : Fra
   pub next_is : next ≡ next_frame frame
   pub item : slice_get items frame.index ≡ Some c
 
-pub record HasDone (level : ℕ) (items : List ItemCode) (next : Frame) (result : Result (Option MainStep) Trap) (r after : MainRun) : Type 0 where
-  pub done : (w : World) (outside : List ℕ) (p : Progress) (remaining : Computation Progress Done) → StandsAt w r level outside items p remaining
-      → HasDoneItem w level outside items p remaining result r after
-  pub keeps : KeepsShape level r after
-  pub at_next : result ≡ Ok None → slice_get after.frames level ≡ Some next
-
 -- the frames after an inner block is left
 abbrev pub frames_left : List Frame → ℕ → Frame → Bool → List Frame
 frames_left frames level frame true = frames

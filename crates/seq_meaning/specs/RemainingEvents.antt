@@ -1,14 +1,15 @@
--- How many events a run of a main program can still have: every event makes the number smaller. This project's own.
-use Rattle.std.specs.Prelude.{◌<◌, ℕ, ◌+◌, ◌*◌, Option, Some, None, List, [], ◌∷◌, map, take, drop}
+-- The number of events that a run of a main program can still have, at most: each event makes it
+-- smaller. This project's own.
+use Rattle.std.specs.Prelude.{◌<◌, ℕ, ◌+◌, ◌*◌, List, [], ◌∷◌, map, take, drop}
 use Rattle.std.specs.Option.{option_map}
 use Rattle.resolved_code.specs.declared.items.ItemCode.{ItemCode, fold-ItemCode}
 use Rattle.resolved_code.specs.declared.items.ItemCode.TheOpen.{ItemCode-F, BlockCode-F}
-use Rattle.seq_meaning.specs.MainRuns.{Frame, MainRun, InnerBlock, block_at, index_after, or_none}
+use Rattle.seq_meaning.specs.MainRuns.{Frame, MainRun, block_at, index_after, or_none}
 use Rattle.seq_meaning.specs.declared.main_run.MainStep.{MainStep}
 use Rattle.seq_meaning.specs.declared.main_run.MainStep.TheVariants.{Over}
 
--- THE EVENTS OF ITEMS that are done once, each block in them at most once: a block has the events of its items between those of its
--- scope's start and end
+-- THE EVENTS OF ITEMS, at most, where each block in them is run once: a block has the events of its
+-- items between the start and the end of its scope, and any other item counts as one
 abbrev pub total : List ℕ → ℕ
 total [] = 0
 total (n ∷ ns) = n + total ns
@@ -27,20 +28,23 @@ event_count c = fold-ItemCode ℕ ℕ count_layer block_count_layer c
 abbrev pub events_in : List ItemCode → ℕ
 events_in items = total (map event_count items)
 
--- THE EVENTS THAT ARE LEFT of items in which blocks are open, by the frames of these, that of the items first, where no further turn of a
--- `while` is taken: with no frame the scope of the items is still to be opened
+-- THE REMAINING EVENTS OF ITEMS in which blocks are open, without further turns of a `while`. The
+-- first frame is that of the items, and each further one that of a block in the item of the frame
+-- before it. With no frame the scope of the items is still to be opened.
 abbrev pub events_left : List ItemCode → List Frame → ℕ
 events_left items [] = 1 + events_in items
 events_left items (frame ∷ []) = events_in (drop frame.index items)
 events_left items (frame ∷ inner ∷ frames) =
-    or_none (option_map (λ b. events_left b.block.items (inner ∷ frames) + (1 + events_in (drop (index_after frame b) items))) (block_at items frame))
+    or_none (option_map (λ b. events_left b.block.items (inner ∷ frames)
+    + (1 + events_in (drop (index_after frame b) items))) (block_at items frame))
 
--- THE EVENTS THAT REMAIN of a run, at most: each turn of a `while` that remains can have those of a body, of which there are fewer than
--- of the whole program.
+-- THE REMAINING EVENTS OF A RUN: each turn that remains opens the body of a `while` once more, and
+-- counts as all events of the program, which are more than those of a body.
 abbrev pub remaining_events : List ItemCode → MainRun → ℕ
-remaining_events items r = r.turns * (1 + events_in items) + events_left items (take r.depth r.frames)
+remaining_events items r =
+    r.turns * (1 + events_in items) + events_left items (take r.depth r.frames)
 
--- fewer events remain, or the program is over
+-- fewer events remain, unless the program is over
 abbrev pub HasFewer : MainStep → ℕ → ℕ → Type 0
 HasFewer (Over end) before after = Unit {0}
 HasFewer _ before after = after < before

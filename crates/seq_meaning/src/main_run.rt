@@ -13,7 +13,9 @@ ghost use Rattle.phase_types.specs.declared.state.CheckedProgram.{CheckedProgram
 ghost use Rattle.kernel_eval.specs.Outcomes.{Computation, Done};
 ghost use Rattle.resolved_code.specs.declared.items.ItemCode.{out-ItemCode};
 ghost use Rattle.resolved_code.specs.declared.items.ItemCode.TheVariants as Code;
-ghost use Rattle.seq_meaning.specs.MainRuns.{CanAdvance, CanDo, CanContinue, HasDone, HasAdvanced, HasDoneItem, HasBegunRun, HasNext, HasOpened, HasPrinted, HasTakenTurn, IsAt, IsPreparedRun, KeepsShape, StandsAt, World, block_at, block_in, deepest, frames_left, nested, next_frame};
+ghost use Rattle.seq_meaning.specs.MainRuns.{CanAdvance, CanDo, CanContinue, HasAdvanced, HasDoneItem, HasBegunRun, HasNext, HasOpened, HasPrinted, HasTakenTurn, IsAt, IsPreparedRun, KeepsShape, StandsAt, World, block_at, block_in, deepest, frames_left, nested, next_frame};
+ghost use Rattle.seq_meaning.specs.RemainingEvents.{HasFewer, event_count, events_in, remaining_events};
+ghost use Rattle.seq_meaning.specs.Internal.RunSteps.{CountsDown, HasDone, events_at};
 ghost use Rattle.seq_meaning.specs.Runs.{Progress};
 
 use crate::values::{main_trap, number, scalar_at, truth};
@@ -123,6 +125,7 @@ fn inner_block(item: &ItemCode, after_else: bool) -> Option<(&BlockCode, bool)>
     ensures block { option_map (λ inner. record { block = inner.0.now; is_repeated = inner.1 })
         result ≡ block_in (out-ItemCode item.now) after_else }
     ensures deeper { IfSome result (λ inner. deepest inner.0.now.items < nested item.now) }
+    ensures fewer { IfSome result (λ inner. events_in inner.0.now.items < event_count item.now) }
 {
     match item {
         ItemCode::If { first, second, .. } => {
@@ -148,6 +151,7 @@ fn block_of(items: &[ItemCode], frame: Frame) -> Option<(&BlockCode, bool)>
     ensures block { option_map (λ inner. record { block = inner.0.now; is_repeated = inner.1 })
         result ≡ block_at items.now frame }
     ensures deeper { IfSome result (λ inner. deepest inner.0.now.items < deepest items.now) }
+    ensures fewer { IfSome result (λ inner. events_in inner.0.now.items < events_in items.now) }
 {
     inner_block(at(items, frame.index)?, frame.after_else)
 }
@@ -411,6 +415,9 @@ impl MainRun {
             → StandsAt w self.old level outside items.now p remaining
             → HasAdvanced w level outside items.now p remaining result self.new }
         ensures keeps { KeepsShape level self.old self.new }
+        ensures fewer { (worth : ℕ) → events_in items.now < worth → CountsDown result
+            (events_at worth level items.now self.old)
+            (events_at worth level items.now self.new) }
     {
         loop {
             let frame = self.frame(level);
@@ -442,6 +449,9 @@ impl MainRun {
             → StandsAt w self.old level outside items.now p remaining
             → HasAdvanced w level outside items.now p remaining result self.new }
         ensures keeps { KeepsShape level self.old self.new }
+        ensures fewer { (worth : ℕ) → events_in items.now < worth → CountsDown result
+            (events_at worth level items.now self.old)
+            (events_at worth level items.now self.new) }
     {
         if level >= self.innermost() {
             return self.run_items(items, level);
@@ -529,6 +539,8 @@ impl MainRun {
             → HasNext (record { mesh = mesh; turns = turns; parts = parts_of program })
             c.now.items p at.remaining result self.new }
         ensures keeps { KeepsShape 0 self.old self.new }
+        ensures fewer { HasFewer result (remaining_events c.now.items self.old)
+            (remaining_events c.now.items self.new) }
     {
         match self.advance(c.items(), 0) {
             Some(step) => step,
@@ -567,6 +579,8 @@ impl MainRun {
             → HasNext (record { mesh = mesh; turns = turns; parts = parts_of program })
             c.now.items p at.remaining result self.new }
         ensures prepared { IsPreparedRun c.now self.old → IsPreparedRun c.now self.new }
+        ensures fewer { HasFewer result (remaining_events c.now.items self.old)
+            (remaining_events c.now.items self.new) }
     {
         if self.depth == 0 {
             self.open();

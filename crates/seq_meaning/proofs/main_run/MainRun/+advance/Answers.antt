@@ -1,8 +1,9 @@
 use Rattle.std.proofs.Common.{◌≡◌, ◌<◌, ◌+◌, ℕ, suc, arith, sym, subst}
 use Rattle.std.specs.Prelude.{Some, None}
 use Rattle.seq_meaning.specs.MainRuns.{InnerBlock, KeepsShape, HasEvent, AreFewer, block_at}
+use Rattle.seq_meaning.specs.Internal.RunSteps.{events_at}
 use Rattle.seq_meaning.specs.Runs.{ScopeClosed}
-use Rattle.seq_meaning.proofs.MainAdvanceLemmas.{advances_at, keeps_at, can_at, can_inside, block_within, keeps_left, advances_around, leaves, stands_inside}
+use Rattle.seq_meaning.proofs.MainAdvanceLemmas.{advances_at, keeps_at, can_at, can_inside, block_within, counts_at, keeps_left, advances_around, fewer_around, fewer_left, leaves, stands_inside}
 use Rattle.seq_meaning.proofs.MainHereLemmas.{stands_below}
 use Rattle.seq_meaning.proofs.main_run.MainRun.+advance.Goals as goal
 
@@ -52,3 +53,26 @@ returns-clause-keeps t c =
     subst (KeepsShape c.args.level c.args.self.now) (sym c.leave.ensures)
     (keeps_left c.args.level c.args.self.now c.advance.new.self c.frame-frame.result c.in_ok-block.is_repeated
     (keeps_at c.args.self.now c.advance.new.self c.args.level (c.args.level + 1) (plus_one c.args.level) c.advance.ensures.keeps))
+
+pub returns-in-Some-clause-fewer : goal.returns-in-Some-clause-fewer
+returns-in-Some-clause-fewer t c = λ worth l.
+    let deep : suc c.args.level < c.args.self.now.depth = omega (arith, c.innermost.ensures, c.if-level-innermost.false) in
+    let inner : InnerBlock = record { block = c.in_ok-block.block.now; is_repeated = c.in_ok-block.is_repeated } in
+    let found : block_at c.args.items.now c.frame-frame.result ≡ Some inner = sym c.in_ok-block.ensures.block in
+    fewer_around c.requires.stands deep c.frame-frame.result c.frame-frame.ensures inner found c.in_ok-block.ensures.deeper c.advance.new.self
+    (keeps_at c.args.self.now c.advance.new.self c.args.level (c.args.level + 1) (plus_one c.args.level) c.advance.ensures.keeps) worth c.in-Some.step
+    (advances_at c.args.self.now c.advance.new.self c.args.level (c.args.level + 1) c.in_ok-block.block.now.items c.as_slice.result.now (Some c.in-Some.step) (plus_one c.args.level) c.as_slice.ensures c.in-Some.ensures.advanced
+    c.requires.w _ c.requires.p _ (stands_inside c.requires.stands deep c.frame-frame.result c.frame-frame.ensures inner found c.in_ok-block.ensures.deeper))
+    (counts_at c.args.self.now c.advance.new.self c.args.level (c.args.level + 1) c.in_ok-block.block.now.items c.as_slice.result.now (Some c.in-Some.step) (plus_one c.args.level) c.as_slice.ensures c.in-Some.ensures.fewer
+    worth (omega (arith, l, c.in_ok-block.ensures.fewer)))
+
+pub returns-clause-fewer : goal.returns-clause-fewer
+returns-clause-fewer t c = λ worth l.
+    let deep : suc c.args.level < c.args.self.now.depth = omega (arith, c.innermost.ensures, c.if-level-innermost.false) in
+    let inner : InnerBlock = record { block = c.in_ok-block.block.now; is_repeated = c.in_ok-block.is_repeated } in
+    let found : block_at c.args.items.now c.frame-frame.result ≡ Some inner = sym c.in_ok-block.ensures.block in
+    subst (λ after. events_at worth c.args.level c.args.items.now after < events_at worth c.args.level c.args.items.now c.args.self.now) (sym c.leave.ensures)
+    (fewer_left c.requires.stands deep c.frame-frame.result c.frame-frame.ensures inner found c.in_ok-block.ensures.deeper c.advance.new.self
+    (keeps_at c.args.self.now c.advance.new.self c.args.level (c.args.level + 1) (plus_one c.args.level) c.advance.ensures.keeps) worth
+    (counts_at c.args.self.now c.advance.new.self c.args.level (c.args.level + 1) c.in_ok-block.block.now.items c.as_slice.result.now None (plus_one c.args.level) c.as_slice.ensures c.in_default.ensures.fewer
+    worth (omega (arith, l, c.in_ok-block.ensures.fewer))))

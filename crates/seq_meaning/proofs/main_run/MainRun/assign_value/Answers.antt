@@ -4,7 +4,8 @@ use mir.Val.{SFits}
 use mir.Syntax.{w64}
 use Rattle.std.proofs.lemmas.Result.{err_from_is_err_and}
 use Rattle.code_eval.specs.Arithmetic.{assigned_value}
-use Rattle.seq_meaning.specs.MainRuns.{MainRun, HasDone}
+use Rattle.seq_meaning.specs.MainRuns.{MainRun}
+use Rattle.seq_meaning.specs.Internal.RunSteps.{HasDone}
 use Rattle.seq_meaning.specs.MainValues.{main_number}
 use Rattle.seq_meaning.proofs.MainItemLemmas.{assign_means, assign_traps, assign_is_below, assign_done}
 use Rattle.seq_meaning.proofs.main_run.MainRun.assign_value.Goals as goal

@@ -1,6 +1,7 @@
 use Rattle.std.proofs.Common.{◌≡◌, suc, slice_set, ap, sym, ◌∙◌, subst, Err, Ok, Some, None, true, false}
 use Rattle.std.proofs.lemmas.Result.{err_from_is_err_and}
-use Rattle.seq_meaning.specs.MainRuns.{Frame, HasDone}
+use Rattle.seq_meaning.specs.MainRuns.{Frame}
+use Rattle.seq_meaning.specs.Internal.RunSteps.{HasDone}
 use Rattle.seq_meaning.specs.MainValues.{main_truth}
 use Rattle.seq_meaning.specs.declared.main_run.MainStep.TheVariants.{Enter}
 use Rattle.seq_meaning.proofs.MainItemLemmas.{if_means, if_traps, if_has_room, first_done, second_done, neither_done}

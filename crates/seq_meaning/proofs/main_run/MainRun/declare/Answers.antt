@@ -3,7 +3,7 @@ use Rattle.std.proofs.lemmas.Int.{to_z-of_z}
 use mir.Val.{SFits}
 use mir.Syntax.{w64}
 use Rattle.std.proofs.lemmas.Result.{err_from_is_err_and}
-use Rattle.seq_meaning.specs.MainRuns.{HasDone}
+use Rattle.seq_meaning.specs.Internal.RunSteps.{HasDone}
 use Rattle.seq_meaning.specs.MainValues.{main_number}
 use Rattle.seq_meaning.specs.declared.main_run.MainStep.TheVariants.{Declare}
 use Rattle.seq_meaning.proofs.MainItemLemmas.{field_means, field_traps, field_done}

@@ -3,7 +3,8 @@ use Rattle.std.proofs.lemmas.Int.{to_z-of_z}
 use mir.Val.{SFits}
 use mir.Syntax.{w64}
 use Rattle.std.proofs.lemmas.Result.{err_from_is_err_and}
-use Rattle.seq_meaning.specs.MainRuns.{MainRun, HasDone}
+use Rattle.seq_meaning.specs.MainRuns.{MainRun}
+use Rattle.seq_meaning.specs.Internal.RunSteps.{HasDone}
 use Rattle.seq_meaning.specs.MainValues.{main_number}
 use Rattle.seq_meaning.proofs.MainItemLemmas.{scalar_means, scalar_traps, scalar_is_below, scalar_done}
 use Rattle.seq_meaning.proofs.main_run.MainRun.declare_scalar.Goals as goal

@@ -1,6 +1,6 @@
 use Rattle.std.proofs.Common.{arith}
 use Rattle.seq_meaning.proofs.MainHereLemmas.{stands_below}
-use Rattle.seq_meaning.proofs.MainStartLemmas.{opened, opened_shape, still_prepared}
+use Rattle.seq_meaning.proofs.MainStartLemmas.{has_frames, opened, opened_fewer, opened_shape, still_prepared}
 use Rattle.seq_meaning.proofs.main_run.MainRun.next.Goals as goal
 
 pub returns-then-self-eq0-clause-opened : goal.returns-then-self-eq0-clause-opened
@@ -15,3 +15,6 @@ returns-then-self-eq0-clause-prepared c = λ prepared. still_prepared c.args.c.n
 
 pub returns-clause-prepared : goal.returns-clause-prepared
 returns-clause-prepared c = λ prepared. still_prepared c.args.c.now c.next_event.ensures.keeps prepared
+
+pub returns-then-self-eq0-clause-fewer : goal.returns-then-self-eq0-clause-fewer
+returns-then-self-eq0-clause-fewer c = opened_fewer c.args.c.now.items c.args.self.now c.open.new.self c.if-self-eq0.true (has_frames c.args.c.now c.args.self.now c.requires) c.open.ensures

@@ -4,7 +4,8 @@ use mir.Val.{SFits}
 use mir.Syntax.{w64}
 use Rattle.std.proofs.lemmas.Result.{err_from_is_err_and}
 use Rattle.liszt_base.specs.declared.answers.TrapKind.TheVariants.{Prints}
-use Rattle.seq_meaning.specs.MainRuns.{MainRun, HasDone}
+use Rattle.seq_meaning.specs.MainRuns.{MainRun}
+use Rattle.seq_meaning.specs.Internal.RunSteps.{HasDone}
 use Rattle.seq_meaning.specs.MainValues.{main_trap, main_number}
 use Rattle.seq_meaning.proofs.MainItemLemmas.{print_means, print_traps, prints_end, print_done}
 use Rattle.seq_meaning.proofs.main_run.MainRun.print_value.Goals as goal

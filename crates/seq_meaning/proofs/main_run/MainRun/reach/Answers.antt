@@ -1,5 +1,5 @@
 use Rattle.std.proofs.Common.{sym, subst, Ok, Some}
-use Rattle.seq_meaning.specs.MainRuns.{HasDone}
+use Rattle.seq_meaning.specs.Internal.RunSteps.{HasDone}
 use Rattle.seq_meaning.specs.declared.main_run.MainStep.TheVariants.{Comp}
 use Rattle.seq_meaning.proofs.MainItemLemmas.{reach_done}
 use Rattle.seq_meaning.proofs.main_run.MainRun.reach.Goals as goal

@@ -1,7 +1,8 @@
 use Rattle.std.proofs.Common.{◌≡◌, ◌<◌, suc, length, slice_set, ap, sym, ◌∙◌, subst, Err, Ok, Some, None, false}
 use Rattle.std.proofs.lemmas.Result.{err_from_is_err_and}
 use Rattle.liszt_base.specs.declared.answers.TrapKind.TheVariants.{Spent}
-use Rattle.seq_meaning.specs.MainRuns.{Frame, MainRun, HasDone}
+use Rattle.seq_meaning.specs.MainRuns.{Frame, MainRun}
+use Rattle.seq_meaning.specs.Internal.RunSteps.{HasDone}
 use Rattle.seq_meaning.specs.MainValues.{main_trap, main_truth}
 use Rattle.seq_meaning.specs.declared.main_run.MainStep.TheVariants.{Enter}
 use Rattle.seq_meaning.proofs.MainItemLemmas.{while_means, while_traps, while_has_room, ended_done, spent_done, turn_done}
