@@ -6,7 +6,7 @@ use Rattle.std.proofs.lemmas.List.Sums.{fold-append}
 use Rattle.std.proofs.lemmas.Option.{get_or_from_slice_get, slice_get_within}
 use Rattle.std.specs.List.{fold as fold_list, range_with_len, slice_set}
 use Rattle.std.specs.Option.{option_and_then, option_map}
-use Rattle.std.specs.Prelude.{Option, Some, None, is_some, slice_get, ℤ, Result, Ok, Err}
+use Rattle.std.specs.Prelude.{Option, Some, None, slice_get, ℤ, Result, Ok, Err}
 use Rattle.liszt_base.specs.MeshLists.{MeshLists}
 use Rattle.liszt_base.specs.Reductions.{InRange, fold, identity_of}
 use Rattle.liszt_base.specs.declared.accesses.Mode.{Mode}
@@ -20,18 +20,18 @@ use Rattle.mesh_topology.specs.Elements.{count, numbers}
 use Rattle.resolved_code.specs.declared.items.ComprehensionCode.{ComprehensionCode}
 use Rattle.phase_types.specs.Checked.{HasPartsOf, checked_kind, checked_mode, checked_program}
 use Rattle.phase_types.specs.declared.state.CheckedProgram.{CheckedProgram}
-use Rattle.phase_types.specs.Environments.{Comprehension, comprehension_of, lookup, parts_of}
+use Rattle.phase_types.specs.Environments.{Comprehension, comprehension_of, lookup}
 use Rattle.phase_types.specs.Typed.{ComprehensionFits}
 use Rattle.phase_types.specs.Walk.{OfScalar, mode_in}
 use Rattle.phase_types.proofs.CheckedLemmas.{checked_is_typed, checked_parts}
-use Rattle.phase_types.proofs.ComprehensionLemmas.{Stands, comprehension_stands}
+use Rattle.phase_types.proofs.ComprehensionLemmas.{comprehension_stands}
 use Rattle.code_eval.specs.declared.activation.Activation.{Activation}
 use Rattle.code_eval.specs.Stores.{HasActed}
 use Rattle.kernel_eval.specs.Fits.{StateFits}
 use Rattle.kernel_eval.specs.HeldFields.{HoldsFields, HoldsScalars}
-use Rattle.kernel_eval.specs.Iterations.{acts, end_of, iteration, iteration_end, partials_after}
-use Rattle.kernel_eval.specs.Outcomes.{Stop, Trapped, NoMeaning, Done, continue_with, halt, pure}
-use Rattle.kernel_eval.specs.Running.{CanIterate, HasBegun, HasIdentities, HasIterated, IsPrepared}
+use Rattle.kernel_eval.specs.Iterations.{acts, end_of, iteration, partials_after}
+use Rattle.kernel_eval.specs.Outcomes.{Stop, Trapped, NoMeaning, Done, continue_with, pure}
+use Rattle.kernel_eval.specs.Running.{CanIterate, HasBegun, HasIterated, IsPrepared}
 use Rattle.kernel_eval.specs.States.{State, known_scalars, scalar_value}
 use Rattle.kernel_eval.proofs.HeldFieldLemmas.{fields_admit, fields_held_after}
 use Rattle.kernel_eval.proofs.PartLemmas.{iteration_knows}
@@ -40,7 +40,7 @@ use Rattle.kernel_eval.proofs.ShapeLemmas.{still_fits}
 use Rattle.kernel_eval.proofs.TypedEvaluationLemmas.{iteration_fits}
 use Rattle.seq_meaning.specs.FieldStores.{StoreWords, view_of}
 use Rattle.seq_meaning.specs.declared.seq_store.SeqStore.{SeqStore}
-use Rattle.seq_meaning.specs.Internal.Iterating.{AreReduced, AreReducedBelow, CanRunComprehension, CanRunIterations, HasReduced, HasRunComprehension, HasRunIterations, HaveReduced, IsIterating, value_after}
+use Rattle.seq_meaning.specs.Internal.Iterating.{AreReduced, AreReducedBelow, CanRunComprehension, CanRunIterations, HasReduced, HasRunIterations, HaveReduced, IsIterating, value_after}
 use Rattle.seq_meaning.specs.Runs.{after_iteration, comprehension, iterations}
 use Rattle.seq_meaning.proofs.IterationLemmas.{for_each_unchanged}
 use Rattle.seq_meaning.proofs.MainStepLemmas.{length_set, set_here, set_there}
@@ -298,9 +298,9 @@ pub comprehension_below : (checked : CheckedProgram) (k : ℕ) (program : Main) 
     → k < length checked.comprehensions
 comprehension_below checked k program c is found =
     go (slice_get checked.comprehensions k) refl ((checked_parts program checked is).kinds k ∙ ap (option_map (λ (c : Comprehension). c.over)) found) where
-  go : (code : Option ComprehensionCode) → slice_get checked.comprehensions k ≡ code → option_map (λ (code : ComprehensionCode). code.over) code ≡ Some c.over → k < length checked.comprehensions
-  go (Some code) at e = slice_get_within checked.comprehensions k code at
-  go None at e = absurd cc
+      go : (code : Option ComprehensionCode) → slice_get checked.comprehensions k ≡ code → option_map (λ (code : ComprehensionCode). code.over) code ≡ Some c.over → k < length checked.comprehensions
+      go (Some code) at e = slice_get_within checked.comprehensions k code at
+      go None at e = absurd cc
 
 abbrev pub has_begun : (checked : CheckedProgram) (k : ℕ) (mesh : MeshLists) (store : SeqStore) (can : CanRunComprehension checked k mesh store) (scalars : List ℤ) (a : Activation)
     → scalars ≡ store.main.scalars → HasBegun checked k scalars a → CanRunIterations checked k mesh a store.fields

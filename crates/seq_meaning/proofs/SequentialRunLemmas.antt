@@ -1,5 +1,5 @@
 -- A sequential run: the store through the events of the main program.
-use Rattle.std.proofs.Common.{◌≡◌, ◌≢◌, ◌<◌, ◌≤◌, ℕ, ◌+◌, ◌==◌, zero, suc, true, List, [], ◌∷◌, ◌++◌, drop, inl, inr, length, map, take, replicate, refl, sym, ap, subst, ◌∙◌, arith}
+use Rattle.std.proofs.Common.{◌≡◌, ◌≢◌, ◌<◌, ◌≤◌, ℕ, ◌+◌, ◌==◌, zero, suc, List, [], ◌∷◌, ◌++◌, drop, inl, inr, length, map, take, replicate, refl, sym, ap, subst, ◌∙◌, arith}
 use Rattle.std.proofs.Common.{ne_eqb}
 use Rattle.std.proofs.lemmas.Bool.Decides.{eqb_tells}
 use Rattle.std.proofs.lemmas.List.{append-nil}
@@ -17,9 +17,8 @@ use Rattle.liszt_tree.specs.Tree.{Main}
 use Rattle.mesh_topology.specs.Elements.{corner_lists, count, numbers}
 use Rattle.resolved_code.specs.declared.items.ItemCode.{ItemCode}
 use Rattle.phase_types.specs.Checked.{HasPartsOf, checked_program}
-use Rattle.phase_types.specs.declared.info.FieldInfo.{FieldInfo}
 use Rattle.phase_types.specs.declared.state.CheckedProgram.{CheckedProgram}
-use Rattle.phase_types.specs.Environments.{Comprehension, comprehension_of, comprehensions_in, first_declared, lookup, parts_of}
+use Rattle.phase_types.specs.Environments.{Comprehension, lookup, parts_of}
 use Rattle.phase_types.specs.Typed.{ComprehensionFits, IsTyped}
 use Rattle.phase_types.proofs.CheckedLemmas.{checked_is_typed, checked_parts}
 use Rattle.phase_types.proofs.ComprehensionLemmas.{comprehension_stands}
@@ -35,7 +34,7 @@ use Rattle.kernel_eval.proofs.ReductionLemmas.{iteration_folds}
 use Rattle.seq_meaning.specs.FieldStores.{HasSpotsOf, StoreWords, declared_value, stored_value, view_of}
 use Rattle.seq_meaning.specs.FieldStores.{HoldsFields as HasFields}
 use Rattle.seq_meaning.specs.Internal.Iterating.{CanRunComprehension, HasRunComprehension}
-use Rattle.seq_meaning.specs.MainRuns.{AreFewer, AreSame, AtItem, CanContinue, Frame, HasNext, HasOpened, InBlock, deepest, Ends, HasEvent, HasState, HaveOneMore, IsAt, MainRun, Reaches, Stands, StandsAt, Traps, World, logged}
+use Rattle.seq_meaning.specs.MainRuns.{AreFewer, AreSame, AtItem, CanContinue, Frame, HasNext, HasOpened, InBlock, deepest, Ends, HasEvent, HaveOneMore, IsAt, MainRun, Reaches, Stands, Traps, World, logged}
 use Rattle.seq_meaning.specs.Paths.{DescendBelow, DescendingFields, EntryFits}
 use Rattle.seq_meaning.specs.Runs.{ComprehensionReached, Entry, Event, FieldDeclared, Progress, ScopeClosed, ScopeOpened, after_iteration, after_scope, all_or_nothing, comprehension, empty, lift_state, restored_outcome, run, with_earlier_path}
 use Rattle.seq_meaning.specs.SequentialRuns.{HasRun, SeqStore}
@@ -266,7 +265,7 @@ module _ (checked : CheckedProgram) (mesh : MeshLists) (turns : ℕ) (program : 
       pub phase_fits : StateFits mesh e.c.environment e.later.state
       phase_fits =
           let fits = entry_fits (ComprehensionReached k) e.later (lift_state (all_or_nothing (comprehension mesh e.c turns)) >> e.rest)
-              (comprehension_commutes mesh e.c turns e.rest (stands_commute e.stands)) run_is in
+          (comprehension_commutes mesh e.c turns e.rest (stands_commute e.stands)) run_is in
           let phase = fits.phase k refl in
           subst (λ (c : Comprehension). StateFits mesh c.environment e.later.state) (some_same phase.0 e.c (sym phase.1 ∙ e.found)) phase.2
 
@@ -281,6 +280,7 @@ module _ (checked : CheckedProgram) (mesh : MeshLists) (turns : ℕ) (program : 
         scalars = subst (λ main. HoldsScalars e.later.state main.scalars) (sym main_is) e.has_state.scalars;
         fields = subst (λ fields. HoldsFields e.later.state (view_of fields)) (sym fields_are) (same_fields r.progress.state e.later.state fields e.fields r.holds);
       }
+
       module _ (before now : SeqStore) (main_is : before.main ≡ after) where
         pub comprehension_done : HasRunComprehension mesh e.c turns e.later.state IsDone before now → IsRunning checked mesh turns program now.main now.fields
         comprehension_done h = record {

@@ -1,10 +1,6 @@
 -- Sequential runs of checked programs, and of their comprehensions. This project's own.
-use Rattle.std.specs.Prelude.{◌≡◌, ℕ, Some, ℤ, pos, List, take, get_or, Option, Result, Ok, Err}
-use Rattle.std.specs.List.{fold as fold_list}
+use Rattle.std.specs.Prelude.{◌≡◌, ℕ, Some, take, Result, Ok, Err}
 use Rattle.liszt_base.specs.MeshLists.{MeshLists}
-use Rattle.liszt_base.specs.Reductions.{fold, identity_of}
-use Rattle.liszt_base.specs.declared.accesses.Mode.{Mode}
-use Rattle.liszt_base.specs.declared.accesses.Mode.TheVariants.{Reduce}
 use Rattle.liszt_base.specs.declared.answers.LimitFault.{LimitFault}
 use Rattle.liszt_base.specs.declared.answers.Refused.{Refused}
 use Rattle.liszt_base.specs.declared.answers.RunEnd.{RunEnd}

@@ -1,5 +1,4 @@
-use Rattle.std.proofs.Common.{◌≡◌, refl, sym, subst}
-use Rattle.seq_meaning.specs.Internal.Iterating.{CanRunIterations}
+use Rattle.std.proofs.Common.{refl}
 use Rattle.seq_meaning.proofs.ComprehensionRunLemmas.{comprehension_below, comprehension_knows, has_begun, mode_is, scalars_held}
 use Rattle.seq_meaning.proofs.sequential_run.run_comprehension.Goals as goal
 

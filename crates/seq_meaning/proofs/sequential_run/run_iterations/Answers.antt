@@ -1,11 +1,3 @@
-use Rattle.std.proofs.Common.{◌≡◌, ◌<◌, ◌≤◌, ℕ, suc, arith, subst, sym, ap, ◌∙◌, rules}
-use Rattle.mesh_topology.specs.Elements.{count}
-use Rattle.liszt_base.specs.declared.answers.RunEnd.{RunEnd}
-use Rattle.liszt_base.specs.declared.answers.RunEnd.TheVariants.{Done as IsDone, Trap as IsTrap}
-use Rattle.code_eval.specs.Acts.{Act}
-use Rattle.kernel_eval.specs.Running.{HasIterated}
-use Rattle.seq_meaning.specs.FieldStores.{view_of}
-use Rattle.seq_meaning.specs.Internal.Iterating.{CanRunIterations, IsIterating}
 use Rattle.seq_meaning.proofs.FieldStoreLemmas.{still_spots}
 use Rattle.seq_meaning.proofs.ComprehensionRunLemmas.{all_iterated, beyond, can_iterate, iterated, iterating, partial_is_there, trapped_at, typed, within}
 use Rattle.seq_meaning.proofs.sequential_run.run_iterations.Goals as goal
@@ -39,16 +31,16 @@ pub loop-id-preserved : goal.loop-id-preserved
 loop-id-preserved c = (
   c.run_iteration.ensures.prepared,
   λ can.
-    let l = within c.args.c.now c.args.k c.args.m.now c.args.turns c.args.locals.now.activation c.args.fields.now can c.comp_kind.result c.comp_kind.ensures c.count-id-end.result c.loop-id.id c.count-id-end.ensures c.loop-id-test.true in
-    let i = c.loop-id.invariant.1 can in
-    iterated c.args.m.now can.comprehension c.args.turns (typed c.args.c.now c.args.k c.args.m.now c.args.turns c.args.locals.now.activation c.args.fields.now can) can.state c.loop-id.id
-    c.loop-id.locals.activation c.run_iteration.new.l.activation c.loop-id.fields c.run_iteration.new.w i
-    (partial_is_there c.args.c.now c.args.k c.args.m.now c.args.turns c.args.locals.now.activation c.args.fields.now can c.requires.prepared c.loop-id.locals.activation c.loop-id.invariant.0) l
-    (c.in-Done.ensures.iterated (can_iterate c.args.c.now c.args.k c.args.m.now c.args.turns c.args.locals.now.activation c.args.fields.now can c.loop-id.id c.loop-id.locals.activation c.loop-id.fields l i)),
+      let l = within c.args.c.now c.args.k c.args.m.now c.args.turns c.args.locals.now.activation c.args.fields.now can c.comp_kind.result c.comp_kind.ensures c.count-id-end.result c.loop-id.id c.count-id-end.ensures c.loop-id-test.true in
+      let i = c.loop-id.invariant.1 can in
+      iterated c.args.m.now can.comprehension c.args.turns (typed c.args.c.now c.args.k c.args.m.now c.args.turns c.args.locals.now.activation c.args.fields.now can) can.state c.loop-id.id
+      c.loop-id.locals.activation c.run_iteration.new.l.activation c.loop-id.fields c.run_iteration.new.w i
+      (partial_is_there c.args.c.now c.args.k c.args.m.now c.args.turns c.args.locals.now.activation c.args.fields.now can c.requires.prepared c.loop-id.locals.activation c.loop-id.invariant.0) l
+      (c.in-Done.ensures.iterated (can_iterate c.args.c.now c.args.k c.args.m.now c.args.turns c.args.locals.now.activation c.args.fields.now can c.loop-id.id c.loop-id.locals.activation c.loop-id.fields l i)),
   λ declared h.
-    still_spots declared c.args.m.now c.loop-id.fields c.run_iteration.new.w (c.loop-id.invariant.2 declared h)
-    (c.run_iteration.ensures.iterated (can_iterate c.args.c.now c.args.k c.args.m.now c.args.turns c.args.locals.now.activation c.args.fields.now c.requires.can c.loop-id.id c.loop-id.locals.activation c.loop-id.fields
-    (within c.args.c.now c.args.k c.args.m.now c.args.turns c.args.locals.now.activation c.args.fields.now c.requires.can c.comp_kind.result c.comp_kind.ensures c.count-id-end.result c.loop-id.id c.count-id-end.ensures c.loop-id-test.true) (c.loop-id.invariant.1 c.requires.can))).acted.spots,
+      still_spots declared c.args.m.now c.loop-id.fields c.run_iteration.new.w (c.loop-id.invariant.2 declared h)
+      (c.run_iteration.ensures.iterated (can_iterate c.args.c.now c.args.k c.args.m.now c.args.turns c.args.locals.now.activation c.args.fields.now c.requires.can c.loop-id.id c.loop-id.locals.activation c.loop-id.fields
+      (within c.args.c.now c.args.k c.args.m.now c.args.turns c.args.locals.now.activation c.args.fields.now c.requires.can c.comp_kind.result c.comp_kind.ensures c.count-id-end.result c.loop-id.id c.count-id-end.ensures c.loop-id-test.true) (c.loop-id.invariant.1 c.requires.can))).acted.spots,
 )
 
 pub returns-clause-ran : goal.returns-clause-ran
