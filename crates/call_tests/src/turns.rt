@@ -12,10 +12,12 @@ fn turns(alloc: Global, text: &str) -> Result<Option<u64>, NoMemory> {
         words.push(String::from_str(alloc, word)?)?;
     }
     match command_of(alloc, &words)? {
-        Some(Command {
-            mode: Mode::Seq { turns },
-            ..
-        }) => Ok(Some(turns)),
+        Some(
+            Command {
+                mode: Mode::Seq { turns },
+                ..
+            },
+        ) => Ok(Some(turns)),
         _ => Ok(None),
     }
 }
