@@ -75,7 +75,7 @@ pub record IsNumberable (lists : MeshLists) : Type 0 where
   pub mesh : IsMesh (length lists.points) (corner_lists lists)
   pub fits : (kind : Kind) → count lists kind < 2 ^ 32
 
--- The outcome of a job, whose text is not written yet.
+-- The text and the outcome of a job, before anything is written.
 abbrev pub check_job_text : CheckJob → List ℕ
 check_job_text job = check_text job.text job.checked (count job.mesh)
 
