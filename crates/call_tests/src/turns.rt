@@ -1,19 +1,24 @@
 //! The turns of a command, which have no effect on a run yet.
 
-use command_words::command_of;
+use command_words::{Command, Mode, command_of};
 use liszt_base::{NoMemory, WordList};
 use std::alloc::Global;
 use std::test::Fail;
 
-/// The turns of the command that words name, parted by blanks.
+/// The turns of the command `seq` that words name, parted by blanks.
 fn turns(alloc: Global, text: &str) -> Result<Option<u64>, NoMemory> {
     let mut words = WordList::new(alloc);
     for word in text.split(' ') {
         words.push(String::from_str(alloc, word)?)?;
     }
     match command_of(alloc, &words)? {
-        Some(command) => Ok(Some(command.turns)),
-        None => Ok(None),
+        Some(
+            Command {
+                mode: Mode::Seq { turns },
+                ..
+            },
+        ) => Ok(Some(turns)),
+        _ => Ok(None),
     }
 }
 
@@ -30,6 +35,7 @@ fn turns_of_commands(rt: HostRuntime) -> Result<(), Fail> {
         ("seq p n e --turns=1000000000", Some(1_000_000_000)),
         ("seq p n e --turns 1000000001", None),
         ("seq p n e --turns 0", None),
+        ("check p n e", None),
     ] {
         assert_eq!(&rt; turns(rt.alloc(), words)?, expected, "{words}");
     }

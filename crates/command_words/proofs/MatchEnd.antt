@@ -11,15 +11,15 @@ use Rattle.clap.specs.declared.parser.matches.Found.{Found}
 use Rattle.clap.proofs.SimpleLemmas.{is_nil}
 use Rattle.clap.proofs.TakesLemmas.{leaf_takes}
 use Rattle.clap.proofs.WalkLemmas.{both, first_value-rows}
-use Rattle.command_words.specs.Commands.{SeqCommand, command_of, turns_in}
+use Rattle.command_words.specs.Commands.{Invocation, command_of}
 use Rattle.command_words.specs.Internal.CommandReading.{command_after, turns_options}
-use Rattle.command_words.specs.Internal.Matches.{command_by, matched_command, seq_app}
+use Rattle.command_words.specs.Internal.Matches.{command_from, matched_command, command_app}
 use Rattle.command_words.proofs.MatchRows.{Are, Holds, row}
 use Rattle.command_words.proofs.MatchWalk.{Fits, Reads, takes_words}
 use Rattle.command_words.proofs.WordLemmas.{no_command, no_more}
 
 abbrev shape : Shape
-shape = (built seq_app).top
+shape = (built command_app).top
 
 -- no argument has a default
 with_same : (b : Bool) (rows : List Row) → (if b then rows else rows) ≡ rows
@@ -41,13 +41,13 @@ first_is value rows id holds = ap (option_and_then (λ (r : Row). slice_get r.va
     go (Some x) = refl
 
 -- the values are those of the command
-short : (turns : Option Text) (plain : List Text) (command : SeqCommand) → length plain ≢ 4 → command_after None (turns_options turns) plain [] ≡ Some command → ⊥
+short : (turns : Option Text) (plain : List Text) (command : Invocation) → length plain ≢ 4 → command_after None (turns_options turns) plain [] ≡ Some command → ⊥
 short turns plain command other remaining_command =
-    let bad : None ≡ Some command = sym (no_more (turns_options turns) plain ∙ no_command plain (turns_in (turns_options turns)) other) ∙ remaining_command in
+    let bad : None ≡ Some command = sym (no_more (turns_options turns) plain ∙ no_command plain (turns_options turns) other) ∙ remaining_command in
     cc
 
-by_values : (turns : Option Text) (plain : List Text) (value : Text → Option Text) (command : SeqCommand) → Are turns plain value
-    → command_after None (turns_options turns) plain [] ≡ Some command → command_by value ≡ Some command
+by_values : (turns : Option Text) (plain : List Text) (value : Text → Option Text) (command : Invocation) → Are turns plain value
+    → command_after None (turns_options turns) plain [] ≡ Some command → command_from value ≡ Some command
 by_values turns (a ∷ b ∷ d ∷ e ∷ []) value command are remaining_command = rw (are.1, are.2, are.3, are.4, are.0) remaining_command
 by_values turns [] value command are remaining_command = absurd (short turns [] command (λ is. cc) remaining_command)
 by_values turns (a ∷ []) value command are remaining_command = absurd (short turns (a ∷ []) command (λ is. cc) remaining_command)
@@ -58,21 +58,21 @@ by_values turns (a ∷ b ∷ d ∷ e ∷ f ∷ plain) value command are remainin
 fits : Fits shape
 fits = record { mode = (refl, refl); program = (refl, refl); node = (refl, refl); ele = (refl, refl); turns_long = refl; turns_id = refl }
 
-reads : (words : List Text) (command : SeqCommand) → command_of words ≡ Some command → Reads shape (walk_from nothing_held) words command
+reads : (words : List Text) (command : Invocation) → command_of words ≡ Some command → Reads shape (walk_from nothing_held) words command
 reads words command remaining_command =
     takes_words shape fits command words None None [] nothing_held
     (record { settles = refl; values = λ id. None; holds = λ id. refl; are = (refl, refl, refl, refl, refl) }) remaining_command
 
-pub simple : is_simple seq_app ≡ true
+pub simple : is_simple command_app ≡ true
 simple = refl
 
-pub words_pass : (words : List Text) (command : SeqCommand) → command_of words ≡ Some command → takes seq_app words ≡ true
+pub words_pass : (words : List Text) (command : Invocation) → command_of words ≡ Some command → takes command_app words ≡ true
 words_pass words command remaining_command =
     let read = reads words command remaining_command in
     let level : level_passes shape [] nothing_held words false ≡ true = rw (read.passes, read.ends.good.settles) refl in
-    leaf_takes (built seq_app) nothing_held words refl level
+    leaf_takes (built command_app) nothing_held words refl level
 
-pub first_value_in : (words : List Text) (command : SeqCommand) (found : Found) → command_of words ≡ Some command → rows_of found ≡ matches_of seq_app words
+pub first_value_in : (words : List Text) (command : Invocation) (found : Found) → command_of words ≡ Some command → rows_of found ≡ matches_of command_app words
     → matched_command found ≡ Some command
 first_value_in words command found remaining_command is =
     let ends = (reads words command remaining_command).ends in

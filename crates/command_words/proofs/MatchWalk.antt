@@ -10,12 +10,12 @@ use Rattle.clap.specs.Simple.{Shape}
 use Rattle.clap.specs.Takes.{settle_passes, turn_passes, walk_passes}
 use Rattle.command_words.specs.declared.options.OptionName.{OptionName}
 use Rattle.command_words.specs.declared.options.OptionName.TheVariants.{Workers, Ranks, Parts, Turns}
-use Rattle.command_words.specs.Commands.{GivenOption, SeqCommand, SortedWords, after_prefix, command_in, option_with_value, is_name, nonempty_value, option_of, option_word, sorted_words_after, sorted_words_with, turns_in, with_option, with_plain}
+use Rattle.command_words.specs.Commands.{GivenOption, Invocation, SortedWords, after_prefix, command_by, command_in, option_with_value, is_name, nonempty_value, option_of, option_word, sorted_words_after, sorted_words_with, with_option, with_plain}
 use Rattle.command_words.specs.Internal.CommandReading.{command_after, turns_options, prepend_words}
 use Rattle.command_words.proofs.MatchRows.{Are, Holds, holds_more, one_value, passes_once, value_put, row, used_once}
 use Rattle.command_words.proofs.MatchSteps.{behind, between, joined_passes, joined_step, option_passes, option_step, plain_passes, plain_step, turns_value, value_passes, value_step, with_pending, with_used}
 use Rattle.command_words.proofs.WordPrefixes.{after_prefix_splits}
-use Rattle.command_words.proofs.WordLemmas.{no_command, plain_next}
+use Rattle.command_words.proofs.WordLemmas.{command_turns, no_command, plain_next, turns_only}
 
 -- the positional of this id stands at this place
 abbrev pub Serves : Shape → ℕ → Text → Type 0
@@ -53,23 +53,23 @@ standing None h position = between h position
 standing (Some name) h position = behind (codes "turns") h position
 
 -- the walk ends with the words of the command
-pub record Ends (s : Shape) (h : Held) (command : SeqCommand) : Type 0 where
+pub record Ends (s : Shape) (h : Held) (command : Invocation) : Type 0 where
   pub turns : Option Text
   pub plain : List Text
   pub good : Good s turns plain h
   pub remaining_command : command_after None (turns_options turns) plain [] ≡ Some command
 
-pub record Reads (s : Shape) (w : Walk) (words : List Text) (command : SeqCommand) : Type 0 where
+pub record Reads (s : Shape) (w : Walk) (words : List Text) (command : Invocation) : Type 0 where
   pub passes : walk_passes s [] w words ≡ true
   pub ends : Ends s (fold (walked s.rules []) w words).held command
 
 -- words that name a command after what was taken so far are read
-abbrev pub Takes : Shape → SeqCommand → List Text → Type 0
+abbrev pub Takes : Shape → Invocation → List Text → Type 0
 Takes s command words = (pending_option : Option OptionName) (turns : Option Text) (plain : List Text) (h : Held) → Stands s pending_option turns plain h
     → command_after pending_option (turns_options turns) plain words ≡ Some command → Reads s (standing pending_option h (suc (length plain))) words command
 
 -- one word more
-next : (s : Shape) (w v : Walk) (word : Text) (rest : List Text) (command : SeqCommand) → turn_passes s [] w word ≡ true
+next : (s : Shape) (w v : Walk) (word : Text) (rest : List Text) (command : Invocation) → turn_passes s [] w word ≡ true
     → walked s.rules [] w word ≡ v → Reads s v rest command → Reads s w (word ∷ rest) command
 unfolding walk_passes
 next s w v word rest command turn step reads = record {
@@ -91,21 +91,23 @@ good_pending s id new long index turns plain rows skip values by none holds are 
     }
 
 -- the command of what was taken so far and of the words after it
-abbrev command_with : Option Text → List Text → Option SortedWords → Option SeqCommand
+abbrev command_with : Option Text → List Text → Option SortedWords → Option Invocation
 command_with turns plain = option_and_then (λ sorted. command_in (prepend_words (turns_options turns) plain sorted))
 
 -- an option is `--turns`, and no other stands before it
-turns_next : (name : OptionName) (turns : Option Text) (value : Text) (plain : List Text) (rest : Option SortedWords) (command : SeqCommand)
+same_options : (turns : Option Text) (name : OptionName) (value : Text) (more : List GivenOption) → name ≡ Turns → turns ≡ None
+    → turns_options turns ++ (name, value) ∷ more ≡ turns_options (Some value) ++ more
+same_options turns name value more n t = rw (n, t) refl
+
+turns_next : (name : OptionName) (turns : Option Text) (value : Text) (plain : List Text) (rest : Option SortedWords) (command : Invocation)
     → command_with turns plain (option_map (with_option (name, value)) rest) ≡ Some command
     → (name ≡ Turns) × (turns ≡ None) × (command_with (Some value) plain rest ≡ Some command)
 turns_next name turns value plain None command e = cc
-turns_next Workers None value plain (Some sorted) command e = cc
-turns_next Ranks None value plain (Some sorted) command e = cc
-turns_next Parts None value plain (Some sorted) command e = cc
-turns_next Turns None value plain (Some sorted) command e = (refl, refl, e)
-turns_next name (Some t) value plain (Some sorted) command e = cc
+turns_next name turns value plain (Some sorted) command e =
+    let only = turns_only turns name value sorted.options (command_turns (plain ++ sorted.plain) (turns_options turns ++ (name, value) ∷ sorted.options) command e) in
+    (only.0, only.1, ap (λ options. command_by (plain ++ sorted.plain) options) (sym (same_options turns name value sorted.options only.0 only.1)) ∙ e)
 
-turns_wait : (name : OptionName) (turns : Option Text) (plain : List Text) (rest : List Text) (command : SeqCommand)
+turns_wait : (name : OptionName) (turns : Option Text) (plain : List Text) (rest : List Text) (command : Invocation)
     → command_after (Some name) (turns_options turns) plain rest ≡ Some command → (name ≡ Turns) × (turns ≡ None)
 turns_wait name turns plain [] command e = cc
 turns_wait name turns plain (value ∷ rest) command e = go (is_name value) e
@@ -156,15 +158,15 @@ joined_word word value e =
     after_prefix_splits (codes "--turns=") word value (filled (after_prefix (codes "--turns=") word) value (options_turns (o Workers) (o Ranks) (o Parts) (o Turns) value e))
 
 -- five plain words are too many
-too_many : (a b d e f : Text) (plain : List Text) (turns : Option Text) (rest : Option SortedWords) (command : SeqCommand)
+too_many : (a b d e f : Text) (plain : List Text) (turns : Option Text) (rest : Option SortedWords) (command : Invocation)
     → command_with turns (a ∷ b ∷ d ∷ e ∷ f ∷ plain) rest ≡ Some command → ⊥
 too_many a b d e f plain turns None command is = cc
 too_many a b d e f plain turns (Some sorted) command is =
-    let none = no_command (a ∷ b ∷ d ∷ e ∷ f ∷ plain ++ sorted.plain) (turns_in (turns_options turns ++ sorted.options)) (λ four. absurd (omega arith)) in
+    let none = no_command (a ∷ b ∷ d ∷ e ∷ f ∷ plain ++ sorted.plain) (turns_options turns ++ sorted.options) (λ four. absurd (omega arith)) in
     let bad : None ≡ Some command = sym none ∙ is in
     cc
 
-module _ (s : Shape) (fits : Fits s) (command : SeqCommand) where
+module _ (s : Shape) (fits : Fits s) (command : Invocation) where
   takes_option : (word : Text) (rest : List Text) (name : OptionName) (turns : Option Text) (plain : List Text) (h : Held) → Takes s command rest
       → Good s turns plain h → option_of word ≡ Some name → command_after (Some name) (turns_options turns) plain rest ≡ Some command
       → Reads s (between h (suc (length plain))) (word ∷ rest) command

@@ -8,6 +8,8 @@ use Rattle.std.specs.Str.{bytes_eq}
 use Rattle.std.specs.Str.Parse.{digits_value}
 use Rattle.liszt_base.specs.Limits.{turn_limit, default_turns}
 use Rattle.command_words.specs.declared.command.Command.{Command}
+use Rattle.command_words.specs.declared.command.Mode.{Mode}
+use Rattle.command_words.specs.declared.command.Mode.TheVariants.{Check, Seq}
 use Rattle.command_words.specs.declared.options.OptionName.{OptionName}
 use Rattle.command_words.specs.declared.options.OptionName.TheVariants.{Workers, Ranks}
 use Rattle.command_words.specs.declared.options.OptionName.TheVariants.{Parts, Turns}
@@ -94,32 +96,47 @@ number_in least most word =
     then Some (digits_value 10 word)
     else None
 
--- COMMANDS. There is `seq PROGRAM NODE ELE`, with the option `--turns` at most once.
-pub record SeqCommand : Type 0 where
+-- COMMANDS. Each has a mode and the names of three files: `check PROGRAM NODE ELE`, without options,
+-- and `seq PROGRAM NODE ELE`, with the option `--turns` at most once.
+pub record Invocation : Type 0 where
+  pub mode : Mode
   pub program : List ℕ
   pub node : List ℕ
   pub ele : List ℕ
-  pub turns : ℕ
 
 -- The command of the code as one of the definitions.
-abbrev pub seq_command : Command → SeqCommand
-seq_command c =
-    record { program = c.program.now; node = c.node.now; ele = c.ele.now; turns = c.turns }
+abbrev pub invocation : Command → Invocation
+invocation c =
+    record { mode = c.mode; program = c.program.now; node = c.node.now; ele = c.ele.now }
 
 abbrev pub turns_in : List GivenOption → Option ℕ
 turns_in [] = Some default_turns
 turns_in ((Turns, value) ∷ []) = number_in 1 turn_limit value
 turns_in options = None
 
-abbrev pub seq_in : List (List ℕ) → ℕ → Option SeqCommand
-seq_in (mode ∷ program ∷ node ∷ ele ∷ []) turns =
-    if bytes_eq mode (codes "seq")
-    then Some (record { program = program; node = node; ele = ele; turns = turns }) else None
-seq_in plain turns = None
+abbrev pub check_in : List GivenOption → Option Mode
+check_in [] = Some Check
+check_in options = None
 
-abbrev pub command_in : SortedWords → Option SeqCommand
-command_in sorted = option_and_then (seq_in sorted.plain) (turns_in sorted.options)
+abbrev pub seq_in : List GivenOption → Option Mode
+seq_in options = option_map (λ turns. Seq turns) (turns_in options)
+
+-- The mode that the first plain word names, with the options of that mode.
+abbrev pub mode_in : List ℕ → List GivenOption → Option Mode
+mode_in word options =
+    if bytes_eq word (codes "check") then check_in options
+    else if bytes_eq word (codes "seq") then seq_in options
+    else None
+
+abbrev pub command_by : List (List ℕ) → List GivenOption → Option Invocation
+command_by (word ∷ program ∷ node ∷ ele ∷ []) options =
+    option_map (λ mode. record { mode = mode; program = program; node = node; ele = ele })
+    (mode_in word options)
+command_by plain options = None
+
+abbrev pub command_in : SortedWords → Option Invocation
+command_in sorted = command_by sorted.plain sorted.options
 
 -- The command that the words name.
-abbrev pub command_of : List (List ℕ) → Option SeqCommand
+abbrev pub command_of : List (List ℕ) → Option Invocation
 command_of words = option_and_then command_in (sorted_words_after words None)

@@ -3,17 +3,20 @@
 
 ghost use Rattle.std.specs.Prelude.{◌≡◌, [], ◌∷◌, Some, None, codes};
 ghost use Rattle.liszt_base.specs.Limits.{default_turns};
+ghost use Rattle.command_words.specs.declared.command.Mode.TheVariants.{Check, Seq};
 ghost use Rattle.command_words.specs.Commands.{command_of};
 
 /// Options are allowed anywhere, with the value as the next word or after `=`.
 fn options()
     ensures none { command_of (codes "seq" ∷ codes "p" ∷ codes "n" ∷ codes "e" ∷ [])
-        ≡ Some (record { program = codes "p"; node = codes "n"; ele = codes "e"; turns = default_turns }) }
+        ≡ Some (record { mode = Seq default_turns; program = codes "p"; node = codes "n"; ele = codes "e" }) }
     ensures before { command_of (codes "--turns" ∷ codes "0005" ∷ codes "seq" ∷ codes "p"
         ∷ codes "n" ∷ codes "e" ∷ [])
-        ≡ Some (record { program = codes "p"; node = codes "n"; ele = codes "e"; turns = 5 }) }
+        ≡ Some (record { mode = Seq 5; program = codes "p"; node = codes "n"; ele = codes "e" }) }
     ensures joined { command_of (codes "seq" ∷ codes "p" ∷ codes "--turns=7" ∷ codes "n" ∷ codes "e"
-        ∷ []) ≡ Some (record { program = codes "p"; node = codes "n"; ele = codes "e"; turns = 7 }) }
+        ∷ []) ≡ Some (record { mode = Seq 7; program = codes "p"; node = codes "n"; ele = codes "e" }) }
+    ensures check { command_of (codes "check" ∷ codes "p" ∷ codes "n" ∷ codes "e" ∷ [])
+        ≡ Some (record { mode = Check; program = codes "p"; node = codes "n"; ele = codes "e" }) }
 {}
 
 /// Words that are no command: an option without a value, a repeated option, an option of no command, a number out of range.
@@ -25,6 +28,8 @@ fn no_commands()
         ∷ codes "n" ∷ codes "e" ∷ []) ≡ None }
     ensures option_of_none { command_of (codes "seq" ∷ codes "p" ∷ codes "n" ∷ codes "e" ∷ codes "--workers"
         ∷ codes "4" ∷ []) ≡ None }
+    ensures option_of_check { command_of (codes "check" ∷ codes "p" ∷ codes "n" ∷ codes "e" ∷ codes "--turns"
+        ∷ codes "5" ∷ []) ≡ None }
     ensures zero { command_of (codes "seq" ∷ codes "p" ∷ codes "n" ∷ codes "e" ∷ codes "--turns"
         ∷ codes "0" ∷ []) ≡ None }
 {}

@@ -1,7 +1,7 @@
 ghost use Rattle.std.specs.Prelude.{◌≡◌, ◌∷◌, ◌++◌, [], ℕ, List, None, Ok, IfOk};
 ghost use Rattle.std.specs.Option.{option_map, option_and_then};
 ghost use Rattle.clap.specs.Words.{found_of};
-ghost use Rattle.command_words.specs.Commands.{command_of, seq_command, turns_in};
+ghost use Rattle.command_words.specs.Commands.{check_in, command_of, invocation, mode_in, turns_in};
 ghost use Rattle.command_words.specs.Internal.CommandReading.{command_after, options_so_far, plain_so_far, remaining_command};
 ghost use Rattle.command_words.specs.Internal.Matches.{matched_command};
 
@@ -11,13 +11,22 @@ use clap::ArgMatches;
 use liszt_base::{DEFAULT_TURNS, NoMemory, TURN_LIMIT, WordList};
 use std::alloc::Global;
 
-/// `seq PROGRAM NODE ELE`: the names of the three files, and the greatest number of turns of a loop.
+/// What a command does with a program and a mesh.
+#[derive(Clone, Copy, Debug)]
+pub enum Mode {
+    /// Checks the program, and counts the elements of the mesh.
+    Check,
+    /// Runs the program on the mesh, with the greatest number of turns of its loops.
+    Seq { turns: u64 },
+}
+
+/// A command: its mode, and the names of its three files.
 #[derive(Clone, Copy, Debug)]
 pub struct Command<'a> {
+    pub mode: Mode,
     pub program: &'a str,
     pub node: &'a str,
     pub ele: &'a str,
-    pub turns: u64,
 }
 
 /// The words read so far: the option whose value is the next word, the value of `--turns`, and at most four plain words.
@@ -31,7 +40,7 @@ struct WordsRead<'a> {
 
 /// The command that the words name, if they name one. Whether they do is tested here; the command is then read by clap.
 pub fn command_of(alloc: Global, words: &WordList) -> Result<Option<Command<'_>>, NoMemory>
-    ensures command { IfOk result (λ command. option_map seq_command command
+    ensures command { IfOk result (λ command. option_map invocation command
         ≡ command_of words.now) }
     ensures none { command_of words.now ≡ None → result ≡ Ok None }
 {
@@ -49,7 +58,7 @@ pub fn command_of(alloc: Global, words: &WordList) -> Result<Option<Command<'_>>
 
 /// The command with the values that clap found.
 fn matched_command<'a>(matches: &ArgMatches<'a>) -> Option<Command<'a>>
-    ensures { option_map seq_command result ≡ matched_command (found_of matches.now) }
+    ensures { option_map invocation result ≡ matched_command (found_of matches.now) }
 {
     let mode = matches.get_str("mode")?;
     let program = matches.get_str("program")?;
@@ -70,7 +79,7 @@ fn matched_command<'a>(matches: &ArgMatches<'a>) -> Option<Command<'a>>
 
 /// The command that the words name, if they name one, computed word by word.
 fn tested_command(words: &WordList) -> Option<Command<'_>>
-    ensures { option_map seq_command result ≡ command_of words.now }
+    ensures { option_map invocation result ≡ command_of words.now }
 {
     let mut words_read = WordsRead {
         pending_option: None,
@@ -156,22 +165,42 @@ impl<'a> WordsRead<'a> {
 
     /// The command that the words name if no more words follow.
     fn command(self) -> Option<Command<'a>>
-        ensures { option_map seq_command result ≡ remaining_command self.entry [] }
+        ensures { option_map invocation result ≡ remaining_command self.entry [] }
     {
         if self.pending_option.is_some() || self.count < self.plain.len() {
             return None;
         }
-        let turns = self.turns()?;
-        let [mode, program, node, ele] = self.plain;
-        if mode == "seq" {
-            Some(Command {
-                program,
-                node,
-                ele,
-                turns,
-            })
+        let [word, program, node, ele] = self.plain;
+        let mode = self.mode(word)?;
+        Some(Command {
+            mode,
+            program,
+            node,
+            ele,
+        })
+    }
+
+    /// The mode that a word names, with the options so far.
+    fn mode(self, word: &str) -> Option<Mode>
+        ensures { result ≡ mode_in word.now (options_so_far self.entry) }
+    {
+        if word == "check" {
+            self.check()
+        } else if word == "seq" {
+            let turns = self.turns()?;
+            Some(Mode::Seq { turns })
         } else {
             None
+        }
+    }
+
+    /// The mode of `check`, which has no option.
+    fn check(self) -> Option<Mode>
+        ensures { result ≡ check_in (options_so_far self.entry) }
+    {
+        match self.turns {
+            Some(_) => None,
+            None => Some(Mode::Check),
         }
     }
 

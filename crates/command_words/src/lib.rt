@@ -6,4 +6,4 @@ mod command;
 mod matched;
 mod options;
 
-pub use command::{Command, command_of};
+pub use command::{Command, Mode, command_of};

@@ -2,8 +2,8 @@
 ghost use Rattle.std.specs.Prelude.{◌≡◌, IfOk, IfErr, Some};
 ghost use Rattle.clap.specs.Words.{app_of, found_of, kind_of};
 ghost use Rattle.clap.specs.declared.error.kind.ErrorKind.TheVariants.{OutOfMemory};
-ghost use Rattle.command_words.specs.Commands.{SeqCommand, command_of};
-ghost use Rattle.command_words.specs.Internal.Matches.{matched_command, seq_app};
+ghost use Rattle.command_words.specs.Commands.{Invocation, command_of};
+ghost use Rattle.command_words.specs.Internal.Matches.{matched_command, command_app};
 
 use clap::{Arg, ArgMatches, Command, Error};
 use liszt_base::WordList;
@@ -11,18 +11,18 @@ use std::alloc::{AllocError, Global};
 
 /// The values that clap finds in the words. For the words of a command the only error is out of memory.
 pub fn matches_of(alloc: Global, words: &WordList) -> Result<ArgMatches<'_>, Error>
-    ensures command { (c : SeqCommand) → command_of words.now ≡ Some c
+    ensures command { (c : Invocation) → command_of words.now ≡ Some c
         → IfOk result (λ m. matched_command (found_of m) ≡ Some c) }
-    ensures out_of_memory { (c : SeqCommand) → command_of words.now ≡ Some c
+    ensures out_of_memory { (c : Invocation) → command_of words.now ≡ Some c
         → IfErr result (λ e. kind_of e ≡ OutOfMemory) }
 {
     let grammar = grammar(alloc)?;
     grammar.try_get_matches_from(words.as_slice())
 }
 
-/// `seq PROGRAM NODE ELE`, with the option `--turns`.
+/// Four plain words, with the option `--turns`. Which modes have it is tested elsewhere.
 fn grammar<'a>(alloc: Global) -> Result<Command<'a>, AllocError>
-    ensures { IfOk result (λ c. app_of c ≡ seq_app) }
+    ensures { IfOk result (λ c. app_of c ≡ command_app) }
 {
     let turns = Arg::new(alloc, "turns").long("turns");
     Command::new(alloc, "liszt_run")

@@ -1,3 +1,4 @@
 pub mod OutcomeLemmas
 pub mod StepLemmas
 pub mod SimpleLemmas
+pub mod MeshLemmas

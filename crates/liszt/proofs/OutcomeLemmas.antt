@@ -24,15 +24,24 @@ use Rattle.liszt_io.specs.Causes.{Rose}
 use Rattle.liszt_io.specs.Shelves.{Files, file, Tally}
 use Rattle.liszt_base.specs.declared.answers.MeshFault.{MeshFault}
 use Rattle.liszt_base.specs.declared.mesh.Point.{Point}
+use Rattle.liszt_report.specs.Texts.{check_text}
+use Rattle.liszt_tree.specs.Canonical.{canonical}
+use Rattle.mesh_topology.specs.Elements.{count}
+use Rattle.phase_types.specs.declared.state.CheckedProgram.{CheckedProgram}
+use Rattle.phase_types.specs.Checked.{checked_program}
 use Rattle.phase_types.specs.Walk.{check_fault}
+use Rattle.phase_types.proofs.FaultLemmas.{is_typed}
+use Rattle.phase_types.proofs.CheckedLemmas.{typed_is_checked}
 use Rattle.text_scan.specs.Rows.{text_rows}
 use Rattle.tet_reader.specs.Faults.{node_fault, cells_fault}
 use Rattle.tet_reader.proofs.Lists.{one_point_list, node_spelled, node_passes}
 use Rattle.tet_reader.proofs.EleReading.{mesh_spelled_over, mesh_passes_over, one_mesh_over}
 use Rattle.liszt_report.specs.declared.ended.Ended.{Ended}
 use Rattle.liszt_report.specs.declared.ended.Ended.TheVariants.{Done, Usage, Later, Program as OfProgram, Mesh, Limit, Trap, ReadFault, WriteFault, NoMemory}
-use Rattle.command_words.specs.Commands.{command_of, SeqCommand}
-use Rattle.liszt.specs.Expected.{RunsOn, Outcome, refusal, Within, Follows, IsProgramFault, ProgramResult, NodeResult, EleResult, TakesIn, Finishes, TakesCells, TakesPoints, Seq, ResultsIn, Expected}
+use Rattle.command_words.specs.declared.command.Mode.{Mode}
+use Rattle.command_words.specs.declared.command.Mode.TheVariants.{Check, Seq}
+use Rattle.command_words.specs.Commands.{command_of, Invocation}
+use Rattle.liszt.specs.Expected.{RunsOn, Outcome, refusal, Within, Follows, IsProgramFault, ProgramResult, NodeResult, EleResult, TakesIn, Finishes, TakesCells, TakesPoints, Performs, ChecksOn, WorksOn, done_with, ResultsIn, Expected}
 use Rattle.liszt.specs.Answers.{outside, IsLost, EndsWith, Answers, HasCauses, IsOutcome}
 
 -- One outcome
@@ -123,28 +132,40 @@ one_simple : (tree : Main) (s t : Simple) → IsSimple tree s → IsSimple tree 
 one_simple tree s t h i = let a = again tree s h in let b = again tree t i in cc
 
 one_run : (tree : Main) (mesh : MeshLists) → IsOne (RunsOn tree mesh)
-one_run tree mesh a b (inl h) (inl i) = h.2 ∙ (ap (λ s. record { ended = Done; text = done_text s mesh }) (one_simple tree h.0 i.0 h.1 i.1) ∙ sym i.2)
+one_run tree mesh a b (inl h) (inl i) = h.2 ∙ (ap (λ s. done_with (done_text s mesh)) (one_simple tree h.0 i.0 h.1 i.1) ∙ sym i.2)
 one_run tree mesh a b (inl h) (inr i) = absurd (i.0 h.0 h.1)
 one_run tree mesh a b (inr h) (inl i) = absurd (h.0 i.0 i.1)
 one_run tree mesh a b (inr h) (inr i) = h.1 ∙ sym i.1
 
-one_finish : (tree : Main) (mesh : MeshLists) → IsOne (Finishes tree mesh)
-one_finish tree mesh = go (check_fault tree) where
-  go : (fault : Option ProgramFault) → IsOne (λ outcome. MatchOption fault (RunsOn tree mesh outcome) (λ f. outcome ≡ refusal (program_ending f)))
-  go None a b h i = one_run tree mesh a b h i
+-- a tree has one checked program
+same_checked : (tree : Main) (c d : CheckedProgram) → checked_program tree ≡ Ok c → checked_program tree ≡ Ok d → c ≡ d
+same_checked tree c d p q = cc
+
+one_check : (tree : Main) (mesh : MeshLists) → IsOne (ChecksOn tree mesh)
+one_check tree mesh a b h i =
+    h.2 ∙ (ap (λ c. done_with (check_text (canonical tree) c (count mesh))) (same_checked tree h.0 i.0 h.1 i.1) ∙ sym i.2)
+
+one_work : (mode : Mode) (tree : Main) (mesh : MeshLists) → IsOne (WorksOn mode tree mesh)
+one_work Check tree mesh = one_check tree mesh
+one_work (Seq turns) tree mesh = one_run tree mesh
+
+one_finish : (mode : Mode) (tree : Main) (mesh : MeshLists) → IsOne (Finishes mode tree mesh)
+one_finish mode tree mesh = go (check_fault tree) where
+  go : (fault : Option ProgramFault) → IsOne (λ outcome. MatchOption fault (WorksOn mode tree mesh outcome) (λ f. outcome ≡ refusal (program_ending f)))
+  go None a b h i = one_work mode tree mesh a b h i
   go (Some fault) a b h i = h ∙ sym i
 
-one_seq : (files : Files) (c : SeqCommand) → IsOne (Seq (λ n. file files n ≡ None) files c)
-one_seq files c =
+one_performed : (files : Files) (c : Invocation) → IsOne (Performs (λ n. file files n ≡ None) files c)
+one_performed files c =
     let Lost : List ℕ → Type 0 = λ n. file files n ≡ None in
     one_input files Program c.program ProgramResult (TakesPoints Lost files c) one_program (λ program.
     one_input files Node c.node NodeResult (TakesCells Lost files c program) one_node (λ table.
-    one_input files Ele c.ele (EleResult table) (Finishes program) (one_ele table) (one_finish program)))
+    one_input files Ele c.ele (EleResult table) (Finishes c.mode program) (one_ele table) (one_finish c.mode program)))
 
-one_command : (files : Files) (o : Option SeqCommand)
-    → IsOne (λ outcome. MatchOption o (outcome ≡ refusal Usage) (λ c. Seq (λ n. file files n ≡ None) files c outcome))
+one_command : (files : Files) (o : Option Invocation)
+    → IsOne (λ outcome. MatchOption o (outcome ≡ refusal Usage) (λ c. Performs (λ n. file files n ≡ None) files c outcome))
 one_command files None a b p q = p ∙ sym q
-one_command files (Some c) a b p q = one_seq files c a b p q
+one_command files (Some c) a b p q = one_performed files c a b p q
 
 pub one_expected : (words : List (List ℕ)) (files : Files) (a b : Outcome) → Expected words files a → Expected words files b → a ≡ b
 one_expected words files a b p q = one_command files (command_of words) a b p q
@@ -164,13 +185,13 @@ input_weakened Lost Lost' files input name HasResult Continues Continues' outcom
 input_weakened Lost Lost' files input name HasResult Continues Continues' outcome lost rest (inr p) =
     inr (p.0, p.1, p.2, p.3, follows_weakened Continues Continues' p.1 outcome rest p.4)
 
-command_weakened : (Lost Lost' : List ℕ → Type 0) (files : Files) (o : Option SeqCommand) (outcome : Outcome) → ((n : List ℕ) → Lost n → Lost' n)
-    → MatchOption o (outcome ≡ refusal Usage) (λ c. Seq Lost files c outcome) → MatchOption o (outcome ≡ refusal Usage) (λ c. Seq Lost' files c outcome)
+command_weakened : (Lost Lost' : List ℕ → Type 0) (files : Files) (o : Option Invocation) (outcome : Outcome) → ((n : List ℕ) → Lost n → Lost' n)
+    → MatchOption o (outcome ≡ refusal Usage) (λ c. Performs Lost files c outcome) → MatchOption o (outcome ≡ refusal Usage) (λ c. Performs Lost' files c outcome)
 command_weakened Lost Lost' files None outcome lost p = p
 command_weakened Lost Lost' files (Some c) outcome lost p =
     input_weakened Lost Lost' files Program c.program ProgramResult (TakesPoints Lost files c) (TakesPoints Lost' files c) outcome lost (λ program.
     input_weakened Lost Lost' files Node c.node NodeResult (TakesCells Lost files c program) (TakesCells Lost' files c program) outcome lost (λ table.
-    input_weakened Lost Lost' files Ele c.ele (EleResult table) (Finishes program) (Finishes program) outcome lost (λ mesh q. q))) p
+    input_weakened Lost Lost' files Ele c.ele (EleResult table) (Finishes c.mode program) (Finishes c.mode program) outcome lost (λ mesh q. q))) p
 
 lost_without_file : (files : Files) (before now : Tally) (name : List ℕ) → (Rose before.others now.others → ⊥) → IsLost files before now name → file files name ≡ None
 lost_without_file files before now name none (inl p) = p
@@ -243,14 +264,24 @@ some_program bytes = go (tokens_of bytes) refl where
 some_run : (tree : Main) (mesh : MeshLists) → (outcome : Outcome) × RunsOn tree mesh outcome
 some_run tree mesh = go (simple_at tree) refl where
   go : (read : Option Simple) → simple_at tree ≡ read → (outcome : Outcome) × RunsOn tree mesh outcome
-  go (Some s) is = (record { ended = Done; text = done_text s mesh }, inl (s, found tree s is, refl))
+  go (Some s) is = (done_with (done_text s mesh), inl (s, found tree s is, refl))
   go None is = (refusal Later, inr (λ s h. let a = again tree s h in absurd cc, refl))
 
-some_finish : (tree : Main) (mesh : MeshLists) → (outcome : Outcome) × Finishes tree mesh outcome
-some_finish tree mesh = go (check_fault tree) where
-  go : (fault : Option ProgramFault) → (outcome : Outcome) × MatchOption fault (RunsOn tree mesh outcome) (λ f. outcome ≡ refusal (program_ending f))
-  go None = some_run tree mesh
-  go (Some fault) = (refusal (program_ending fault), refl)
+some_check : (tree : Main) (mesh : MeshLists) → check_fault tree ≡ None → (outcome : Outcome) × ChecksOn tree mesh outcome
+some_check tree mesh none =
+    let c = typed_is_checked tree (is_typed tree none) in
+    (done_with (check_text (canonical tree) c.0 (count mesh)), (c.0, c.1, refl))
+
+some_work : (mode : Mode) (tree : Main) (mesh : MeshLists) → check_fault tree ≡ None → (outcome : Outcome) × WorksOn mode tree mesh outcome
+some_work Check tree mesh none = some_check tree mesh none
+some_work (Seq turns) tree mesh none = some_run tree mesh
+
+some_finish : (mode : Mode) (tree : Main) (mesh : MeshLists) → (outcome : Outcome) × Finishes mode tree mesh outcome
+some_finish mode tree mesh = go (check_fault tree) refl where
+  go : (fault : Option ProgramFault) → check_fault tree ≡ fault
+      → (outcome : Outcome) × MatchOption fault (WorksOn mode tree mesh outcome) (λ f. outcome ≡ refusal (program_ending f))
+  go None is = some_work mode tree mesh is
+  go (Some fault) is = (refusal (program_ending fault), refl)
 
 some_node : HasSomeResult NodeResult
 some_node bytes = go (node_fault (text_rows bytes)) refl
@@ -266,15 +297,15 @@ some_ele table bytes = go (cells_fault (length table.list) table.base (text_rows
     go None is = let m = mesh_spelled_over table (text_rows bytes) is in (Ok m.0, m.1)
     go (Some f) is = (Err (mesh_ending f), (f, is, refl))
 
-some_command : (files : Files) (o : Option SeqCommand)
-    → (outcome : Outcome) × MatchOption o (outcome ≡ refusal Usage) (λ c. Seq (λ n. file files n ≡ None) files c outcome)
+some_command : (files : Files) (o : Option Invocation)
+    → (outcome : Outcome) × MatchOption o (outcome ≡ refusal Usage) (λ c. Performs (λ n. file files n ≡ None) files c outcome)
 some_command files None = (refusal Usage, refl)
 some_command files (Some c) =
     let Lost : List ℕ → Type 0 = λ n. file files n ≡ None in
     some_input files Program c.program ProgramResult (TakesPoints Lost files c) (file files c.program) some_program (λ program.
     some_input files Node c.node NodeResult (TakesCells Lost files c program) (file files c.node) some_node (λ table.
-    some_input files Ele c.ele (EleResult table) (Finishes program) (file files c.ele) (some_ele table)
-    (some_finish program)
+    some_input files Ele c.ele (EleResult table) (Finishes c.mode program) (file files c.ele) (some_ele table)
+    (some_finish c.mode program)
     refl) refl) refl
 
 pub some_expected : (words : List (List ℕ)) (files : Files) → (outcome : Outcome) × Expected words files outcome

@@ -19,14 +19,23 @@ use Rattle.liszt.specs.Simple.{Simple, IsSmall}
 use Rattle.liszt_report.specs.declared.ended.Ended.{Ended}
 use Rattle.liszt_report.specs.declared.ended.Ended.TheVariants.{Done, Usage, Later, Program as OfProgram, Mesh, Limit, Trap, ReadFault, WriteFault, NoMemory}
 use Rattle.liszt.specs.declared.job.Job.{Job}
-use Rattle.command_words.specs.Commands.{command_of, SeqCommand}
+use Rattle.liszt.specs.declared.job.Job.TheVariants as jobs
+use Rattle.liszt.specs.declared.job.CheckJob.{CheckJob}
+use Rattle.liszt.specs.declared.job.SeqJob.{SeqJob}
+use Rattle.command_words.specs.declared.command.Mode.{Mode}
+use Rattle.command_words.specs.declared.command.Mode.TheVariants.{Check, Seq}
+use Rattle.liszt_report.specs.Texts.{check_text}
+use Rattle.liszt_tree.specs.Canonical.{canonical}
+use Rattle.mesh_topology.specs.Elements.{count}
+use Rattle.phase_types.specs.declared.state.CheckedProgram.{CheckedProgram}
+use Rattle.command_words.specs.Commands.{command_of, Invocation}
 use Rattle.liszt_base.specs.declared.answers.Refused.{Refused}
 use Rattle.liszt_base.specs.declared.answers.Refused.TheVariants.{Fault, NoMemory as OutOfMemory}
 use Rattle.liszt_report.specs.Endings.{ending_text, program_ending, ending_of, field_text, too_long}
 use Rattle.liszt.specs.Simple.{done_text}
-use Rattle.liszt.specs.Expected.{Outcome, refusal, Within, ProgramResult, NodeResult, EleResult, TakesIn, RunsOn, Finishes, TakesCells, TakesPoints, Seq, ResultsIn}
-use Rattle.liszt.specs.Answers.{outside, IsLost, Answers, Wrote, HasCauses, HasShelfCause}
-use Rattle.liszt.specs.Internal.Steps.{HasStepCause, StepGives, input_at, MakesJob, Prepares, ReadsProgram, job_text}
+use Rattle.liszt.specs.Expected.{Outcome, refusal, Within, ProgramResult, NodeResult, EleResult, TakesIn, Finishes, TakesCells, TakesPoints, Performs, WorksOn, done_with, ResultsIn}
+use Rattle.liszt.specs.Answers.{outside, IsDoneText, IsLost, Answers, Wrote, HasCauses, HasShelfCause}
+use Rattle.liszt.specs.Internal.Steps.{HasStepCause, StepGives, input_at, MakesJob, MakesSeqJob, Prepares, ReadsProgram, WritesOutcome, check_job_text, job_outcome, seq_job_text}
 use Rattle.liszt_lexer.specs.Lexed.{LexedText, lexed_text}
 use Rattle.liszt_lexer.proofs.LexedTextLemmas.{lexed_parts}
 use Rattle.liszt_parser.specs.Grammar.{lexeme, lexemes}
@@ -138,25 +147,22 @@ refusal_continues : (Comes Comes' : Outcome → Type 0) (ended : Ended) → ((ou
 refusal_continues Comes Comes' ended more (inl memory) = inl memory
 refusal_continues Comes Comes' ended more (inr h) = inr (more (refusal ended) h)
 
-named : (Lost : List ℕ → Type 0) (words : List (List ℕ)) (files : Files) (c : SeqCommand) (outcome : Outcome) → command_of words ≡ Some c → Seq Lost files c outcome → ResultsIn Lost words files outcome
+named : (Lost : List ℕ → Type 0) (words : List (List ℕ)) (files : Files) (c : Invocation) (outcome : Outcome) → command_of words ≡ Some c → Performs Lost files c outcome → ResultsIn Lost words files outcome
 named Lost words files c outcome is h =
-    subst (λ (o : Option SeqCommand). MatchOption o (outcome ≡ refusal Usage) (λ d. Seq Lost files d outcome)) (sym is) h
+    subst (λ (o : Option Invocation). MatchOption o (outcome ≡ refusal Usage) (λ d. Performs Lost files d outcome)) (sym is) h
 
 pub no_command : (Lost : List ℕ → Type 0) (words : List (List ℕ)) (files : Files) → command_of words ≡ None → ResultsIn Lost words files (refusal Usage)
 no_command Lost words files is =
-    subst (λ (o : Option SeqCommand). MatchOption o (refusal Usage ≡ refusal Usage) (λ d. Seq Lost files d (refusal Usage))) (sym is) refl
+    subst (λ (o : Option Invocation). MatchOption o (refusal Usage ≡ refusal Usage) (λ d. Performs Lost files d (refusal Usage))) (sym is) refl
 
-abbrev done_with : List ℕ → Outcome
-done_with text = record { ended = Done; text = text }
-
-pub program_refused : (words : List (List ℕ)) (files : Files) (c : SeqCommand) (before now : Tally) (ended : Ended) → command_of words ≡ Some c
+pub program_refused : (words : List (List ℕ)) (files : Files) (c : Invocation) (before now : Tally) (ended : Ended) → command_of words ≡ Some c
     → StepGives (input_at files Program c.program) ProgramResult before now (Err ended) → Prepares words files before now (Err ended)
 program_refused words files c before now ended is first =
     let Lost : List ℕ → Type 0 = IsLost files before now in
-    refusal_continues (Seq Lost files c) (ResultsIn Lost words files) ended (λ outcome. named Lost words files c outcome is)
+    refusal_continues (Performs Lost files c) (ResultsIn Lost words files) ended (λ outcome. named Lost words files c outcome is)
     (input_refused files Program c.program ProgramResult (TakesPoints Lost files c) before now ended first)
 
-pub node_refused : (words : List (List ℕ)) (files : Files) (c : SeqCommand) (program : Main) (before t now : Tally) (ended : Ended) → command_of words ≡ Some c
+pub node_refused : (words : List (List ℕ)) (files : Files) (c : Invocation) (program : Main) (before t now : Tally) (ended : Ended) → command_of words ≡ Some c
     → StepGives (input_at files Program c.program) ProgramResult before t (Ok program) → StepGives (input_at files Node c.node) NodeResult t now (Err ended) → Prepares words files before now (Err ended)
 node_refused words files c program before t now ended is first second =
     let Lost : List ℕ → Type 0 = IsLost files before now in
@@ -165,7 +171,7 @@ node_refused words files c program before t now ended is first second =
     (λ outcome h. named Lost words files c outcome is (input_continues Lost files Program c.program ProgramResult (TakesPoints Lost files c) before t program outcome first h))
     (input_refused files Node c.node NodeResult (TakesCells Lost files c program) before now ended second')
 
-pub ele_refused : (words : List (List ℕ)) (files : Files) (c : SeqCommand) (program : Main) (table : PointTable) (before t u now : Tally) (ended : Ended) → command_of words ≡ Some c
+pub ele_refused : (words : List (List ℕ)) (files : Files) (c : Invocation) (program : Main) (table : PointTable) (before t u now : Tally) (ended : Ended) → command_of words ≡ Some c
     → StepGives (input_at files Program c.program) ProgramResult before t (Ok program) → StepGives (input_at files Node c.node) NodeResult t u (Ok table)
     → StepGives (input_at files Ele c.ele) (EleResult table) u now (Err ended) → Prepares words files before now (Err ended)
 ele_refused words files c program table before t u now ended is first second third =
@@ -175,7 +181,7 @@ ele_refused words files c program table before t u now ended is first second thi
     (λ outcome h. named Lost words files c outcome is
     (input_continues Lost files Program c.program ProgramResult (TakesPoints Lost files c) before t program outcome first
     (input_continues Lost files Node c.node NodeResult (TakesCells Lost files c program) t u table outcome second h)))
-    (input_refused files Ele c.ele (EleResult table) (Finishes program) before now ended third')
+    (input_refused files Ele c.ele (EleResult table) (Finishes c.mode program) before now ended third')
 
 -- the lines of a job are the text of its program on its mesh
 pub job_text_is : (simple : Simple) (mesh : MeshLists) (name : List ℕ) (value : ℤ) → name ≡ simple.name → value ≡ simple.first +ℤ simple.added
@@ -183,48 +189,66 @@ pub job_text_is : (simple : Simple) (mesh : MeshLists) (name : List ℕ) (value 
 job_text_is simple mesh name value e f =
     ap (λ (n : List ℕ). field_text n (λ _. value) (length mesh.cells)) e ∙ ap (λ (v : ℤ). field_text simple.name (λ _. v) (length mesh.cells)) f
 
--- the outcome of a typed program is that of its run
-typed_finishes : (tree : Main) (mesh : MeshLists) (outcome : Outcome) → check_fault tree ≡ None → RunsOn tree mesh outcome → Finishes tree mesh outcome
-typed_finishes tree mesh outcome none runs =
-    subst (λ fault. MatchOption fault (RunsOn tree mesh outcome) (λ f. outcome ≡ refusal (program_ending f))) (sym none) runs
+-- the outcome of a typed program is that of the mode
+typed_finishes : (mode : Mode) (tree : Main) (mesh : MeshLists) (outcome : Outcome) → check_fault tree ≡ None → WorksOn mode tree mesh outcome → Finishes mode tree mesh outcome
+typed_finishes mode tree mesh outcome none works =
+    subst (λ fault. MatchOption fault (WorksOn mode tree mesh outcome) (λ f. outcome ≡ refusal (program_ending f))) (sym none) works
 
 -- the outcome of a job, or of the refusal to make one
-job_finishes : (tree : Main) (mesh : MeshLists) (job : Job) → MakesJob tree mesh (Ok job)
-    → Finishes tree mesh (record { ended = Done; text = job_text job })
-job_finishes tree mesh job made = typed_finishes tree mesh (record { ended = Done; text = job_text job }) made.3 (inl (made.0, made.1, ap done_with made.2))
+job_finishes : (mode : Mode) (tree : Main) (mesh : MeshLists) (job : Job) → MakesJob mode tree mesh (Ok job) → Finishes mode tree mesh (job_outcome job)
+job_finishes mode tree mesh job made = typed_finishes mode tree mesh (job_outcome job) made.1 made.0
 
-refusal_finishes : (Comes : Outcome → Type 0) (tree : Main) (mesh : MeshLists) (ended : Ended) → ((outcome : Outcome) → Finishes tree mesh outcome → Comes outcome)
-    → MakesJob tree mesh (Err ended) → (ended ≡ NoMemory) ⊎ Comes (refusal ended)
-refusal_finishes Comes tree mesh ended comes (inl memory) = inl memory
-refusal_finishes Comes tree mesh ended comes (inr (inl faulty)) =
+refusal_finishes : (Comes : Outcome → Type 0) (mode : Mode) (tree : Main) (mesh : MeshLists) (ended : Ended) → ((outcome : Outcome) → Finishes mode tree mesh outcome → Comes outcome)
+    → MakesJob mode tree mesh (Err ended) → (ended ≡ NoMemory) ⊎ Comes (refusal ended)
+refusal_finishes Comes mode tree mesh ended comes (inl memory) = inl memory
+refusal_finishes Comes mode tree mesh ended comes (inr (inl faulty)) =
     inr (comes (refusal ended)
-    (subst (λ fault. MatchOption fault (RunsOn tree mesh (refusal ended)) (λ f. refusal ended ≡ refusal (program_ending f))) (sym faulty.1) (ap refusal faulty.2)))
-refusal_finishes Comes tree mesh ended comes (inr (inr later)) =
-    inr (comes (refusal ended) (typed_finishes tree mesh (refusal ended) later.2 (inr (later.1, ap refusal later.0))))
+    (subst (λ fault. MatchOption fault (WorksOn mode tree mesh (refusal ended)) (λ f. refusal ended ≡ refusal (program_ending f))) (sym faulty.1) (ap refusal faulty.2)))
+refusal_finishes Comes mode tree mesh ended comes (inr (inr later)) =
+    inr (subst (λ (e : Ended). Comes (refusal e)) (sym later.0) (comes (refusal Later) (typed_finishes mode tree mesh (refusal Later) later.2 later.1)))
 
-pub all_inputs : (words : List (List ℕ)) (files : Files) (c : SeqCommand) (program : Main) (table : PointTable) (mesh : MeshLists) (made : Result Job Ended) (before t u now : Tally) → command_of words ≡ Some c
+pub all_inputs : (words : List (List ℕ)) (files : Files) (c : Invocation) (program : Main) (table : PointTable) (mesh : MeshLists) (made : Result Job Ended) (before t u now : Tally) → command_of words ≡ Some c
     → StepGives (input_at files Program c.program) ProgramResult before t (Ok program) → StepGives (input_at files Node c.node) NodeResult t u (Ok table)
-    → StepGives (input_at files Ele c.ele) (EleResult table) u now (Ok mesh) → MakesJob program mesh made → Prepares words files before now made
+    → StepGives (input_at files Ele c.ele) (EleResult table) u now (Ok mesh) → MakesJob c.mode program mesh made → Prepares words files before now made
 all_inputs words files c program table mesh made before t u now is first second third makes = go made makes
   where
-    comes : (outcome : Outcome) → Finishes program mesh outcome → ResultsIn (IsLost files before now) words files outcome
+    comes : (outcome : Outcome) → Finishes c.mode program mesh outcome → ResultsIn (IsLost files before now) words files outcome
     comes outcome finishes =
         let Lost : List ℕ → Type 0 = IsLost files before now in
         named Lost words files c outcome is
         (input_continues Lost files Program c.program ProgramResult (TakesPoints Lost files c) before t program outcome first
         (input_continues Lost files Node c.node NodeResult (TakesCells Lost files c program) t u table outcome second
-        (input_continues Lost files Ele c.ele (EleResult table) (Finishes program) u now mesh outcome third finishes)))
+        (input_continues Lost files Ele c.ele (EleResult table) (Finishes c.mode program) u now mesh outcome third finishes)))
 
-    go : (made : Result Job Ended) → MakesJob program mesh made → Prepares words files before now made
-    go (Ok job) makes = comes (record { ended = Done; text = job_text job }) (job_finishes program mesh job makes)
-    go (Err ended) makes = refusal_finishes (ResultsIn (IsLost files before now) words files) program mesh ended comes makes
+    go : (made : Result Job Ended) → MakesJob c.mode program mesh made → Prepares words files before now made
+    go (Ok job) makes = comes (job_outcome job) (job_finishes c.mode program mesh job makes)
+    go (Err ended) makes = refusal_finishes (ResultsIn (IsLost files before now) words files) c.mode program mesh ended comes makes
 
 -- a program that was refused has the fault of its walk
-pub job_refused : (tree : Main) (mesh : MeshLists) (made : Result Job Ended) (refused : Refused ProgramFault)
-    → Gives (checked_program tree) (Err refused) → made ≡ Err (ending_of program_ending refused) → MakesJob tree mesh made
-job_refused tree mesh made (Fault fault) is same =
-    subst (MakesJob tree mesh) (sym same) (inr (inl (fault, only_fault tree fault is, refl)))
-job_refused tree mesh made OutOfMemory is same = subst (MakesJob tree mesh) (sym same) (inl refl)
+pub job_refused : (mode : Mode) (tree : Main) (mesh : MeshLists) (made : Result Job Ended) (refused : Refused ProgramFault)
+    → Gives (checked_program tree) (Err refused) → made ≡ Err (ending_of program_ending refused) → MakesJob mode tree mesh made
+job_refused mode tree mesh made (Fault fault) is same =
+    subst (MakesJob mode tree mesh) (sym same) (inr (inl (fault, only_fault tree fault is, refl)))
+job_refused mode tree mesh made OutOfMemory is same = subst (MakesJob mode tree mesh) (sym same) (inl refl)
+
+-- the jobs of the modes, and the refusal of `seq`
+pub check_made : (mode : Mode) (tree : Main) (mesh : MeshLists) (checked : CheckedProgram) (job : CheckJob) → mode ≡ Check → check_fault tree ≡ None → checked_program tree ≡ Ok checked
+    → check_job_text job ≡ check_text (canonical tree) checked (count mesh) → MakesJob mode tree mesh (Ok (jobs.Check job))
+check_made mode tree mesh checked job is none typed text =
+    subst (λ (m : Mode). MakesJob m tree mesh (Ok (jobs.Check job))) (sym is) ((checked, typed, ap done_with text), none)
+
+pub seq_made : (mode : Mode) (turns : ℕ) (tree : Main) (mesh : MeshLists) (job : SeqJob) → mode ≡ Seq turns → check_fault tree ≡ None
+    → MakesSeqJob tree mesh (Ok job) → MakesJob mode tree mesh (Ok (jobs.Seq job))
+seq_made mode turns tree mesh job is none runs = subst (λ (m : Mode). MakesJob m tree mesh (Ok (jobs.Seq job))) (sym is) (runs, none)
+
+pub seq_refused : (mode : Mode) (turns : ℕ) (tree : Main) (mesh : MeshLists) (made : Result Job Ended) (ended : Ended) → mode ≡ Seq turns → check_fault tree ≡ None
+    → MakesSeqJob tree mesh (Err ended) → made ≡ Err ended → MakesJob mode tree mesh made
+seq_refused mode turns tree mesh made ended is none refused same =
+    subst (λ (m : Mode). MakesJob m tree mesh made) (sym is) (subst (MakesJob (Seq turns) tree mesh) (sym same) (go refused))
+  where
+    go : MakesSeqJob tree mesh (Err ended) → MakesJob (Seq turns) tree mesh (Err ended)
+    go (inl memory) = inl memory
+    go (inr later) = inr (inr (later.0, later.1, none))
 
 -- the ending of a program's fault is neither Usage nor a fault of the shelf
 program_cause : (shelf shelf' : ℕ) (fault : ProgramFault) → shelf' ≡ shelf → HasStepCause {A = Job} shelf shelf' (Err (program_ending fault))
@@ -260,23 +284,30 @@ program_no_usage fault = go fault.what where
   go BuiltinWrite is = absurd cc
 
 -- the other clauses of a job
-pub job_cause : (shelf shelf' : ℕ) (tree : Main) (mesh : MeshLists) (made : Result Job Ended) → MakesJob tree mesh made → shelf' ≡ shelf
+pub job_cause : (shelf shelf' : ℕ) (mode : Mode) (tree : Main) (mesh : MeshLists) (made : Result Job Ended) → MakesJob mode tree mesh made → shelf' ≡ shelf
     → HasStepCause shelf shelf' made
-job_cause shelf shelf' tree mesh (Ok job) makes same = same
-job_cause shelf shelf' tree mesh (Err ended) (inl memory) same = subst (λ (e : Ended). HasStepCause {A = Job} shelf shelf' (Err e)) (sym memory) same
-job_cause shelf shelf' tree mesh (Err ended) (inr (inl faulty)) same = subst (λ (e : Ended). HasStepCause {A = Job} shelf shelf' (Err e)) (sym faulty.2) (program_cause shelf shelf' faulty.0 same)
-job_cause shelf shelf' tree mesh (Err ended) (inr (inr later)) same = subst (λ (e : Ended). HasStepCause {A = Job} shelf shelf' (Err e)) (sym later.0) same
+job_cause shelf shelf' mode tree mesh (Ok job) makes same = same
+job_cause shelf shelf' mode tree mesh (Err ended) (inl memory) same = subst (λ (e : Ended). HasStepCause {A = Job} shelf shelf' (Err e)) (sym memory) same
+job_cause shelf shelf' mode tree mesh (Err ended) (inr (inl faulty)) same = subst (λ (e : Ended). HasStepCause {A = Job} shelf shelf' (Err e)) (sym faulty.2) (program_cause shelf shelf' faulty.0 same)
+job_cause shelf shelf' mode tree mesh (Err ended) (inr (inr later)) same = subst (λ (e : Ended). HasStepCause {A = Job} shelf shelf' (Err e)) (sym later.0) same
 
-pub job_no_usage : (tree : Main) (mesh : MeshLists) (made : Result Job Ended) → MakesJob tree mesh made → made ≡ Err Usage → ⊥
-job_no_usage tree mesh (Ok job) makes is = absurd cc
-job_no_usage tree mesh (Err ended) (inl memory) is = absurd cc
-job_no_usage tree mesh (Err ended) (inr (inl faulty)) is = let same : program_ending faulty.0 ≡ Usage = sym faulty.2 ∙ err_is ended Usage is in program_no_usage faulty.0 same
-job_no_usage tree mesh (Err ended) (inr (inr later)) is = let l = later.0 in absurd cc
+pub job_no_usage : (mode : Mode) (tree : Main) (mesh : MeshLists) (made : Result Job Ended) → MakesJob mode tree mesh made → made ≡ Err Usage → ⊥
+job_no_usage mode tree mesh (Ok job) makes is = absurd cc
+job_no_usage mode tree mesh (Err ended) (inl memory) is = absurd cc
+job_no_usage mode tree mesh (Err ended) (inr (inl faulty)) is = let same : program_ending faulty.0 ≡ Usage = sym faulty.2 ∙ err_is ended Usage is in program_no_usage faulty.0 same
+job_no_usage mode tree mesh (Err ended) (inr (inr later)) is = let l = later.0 in absurd cc
 
-pub made_job : (tree : Main) (mesh : MeshLists) (made : Result Job Ended) → MakesJob tree mesh made
-    → IfOk made (λ job. (simple : Simple) × (m : MeshLists) × (job_text job ≡ done_text simple m))
-made_job tree mesh (Ok job) makes = (makes.0, mesh, makes.2)
-made_job tree mesh (Err ended) makes = tt
+job_is_done : (job : Job) → job_outcome job ≡ done_with (job_outcome job).text
+job_is_done (jobs.Check check) = refl
+job_is_done (jobs.Seq seq) = refl
+
+-- a job has a text of the command that the words name
+pub made_job : (words : List (List ℕ)) (c : Invocation) (tree : Main) (mesh : MeshLists) (made : Result Job Ended) → command_of words ≡ Some c → MakesJob c.mode tree mesh made
+    → IfOk made (λ job. MatchOption (command_of words) ⊥ (λ d. IsDoneText d.mode (job_outcome job).text))
+made_job words c tree mesh (Ok job) is makes =
+    let own : IsDoneText c.mode (job_outcome job).text = (tree, mesh, subst (Finishes c.mode tree mesh) (job_is_done job) (job_finishes c.mode tree mesh job makes)) in
+    subst (λ (o : Option Invocation). MatchOption o ⊥ (λ d. IsDoneText d.mode (job_outcome job).text)) (sym is) own
+made_job words c tree mesh (Err ended) is makes = tt
 
 -- a failed file is a lost one
 pub lost_at : (files : Files) (name : List ℕ) (before now : Tally) → FailsAt files name before now → IsLost files before now name
@@ -307,13 +338,22 @@ value_fits first added b c =
 
 -- From what is known before anything is written to the answer
 
-pub job_answers : (words : List (List ℕ)) (files : Files) (before now : Tally) (shelf shelf' : ℕ) (old new : Option (List ℕ)) (job : Job) (written : Result Unit Unwritten) (ended : Ended)
-    → Prepares words files before now (Ok job) → shelf' ≡ shelf → Writes (job_text job) old new written → MatchResult written (λ _. ended ≡ Done) (λ _. ended ≡ WriteFault)
+-- the answer of an outcome whose ending is Done
+outcome_answers : (words : List (List ℕ)) (files : Files) (before now : Tally) (shelf shelf' : ℕ) (old new : Option (List ℕ)) (text : List ℕ) (written : Result Ended Unwritten) (ended : Ended)
+    → ResultsIn (IsLost files before now) words files (done_with text) → shelf' ≡ shelf → WritesOutcome (done_with text) old new written
+    → MatchResult written (λ e. ended ≡ e) (λ _. ended ≡ WriteFault) → Answers words files (outside before shelf old) (outside now shelf' new) ended
+outcome_answers words files before now shelf shelf' old new text (Ok e) ended comes same wrote is =
+    subst (Answers words files (outside before shelf old) (outside now shelf' new)) (sym (is ∙ wrote.0)) (text, comes, wrote.1)
+outcome_answers words files before now shelf shelf' old new text (Err _) ended comes same prefix is =
+    subst (Answers words files (outside before shelf old) (outside now shelf' new)) (sym is) (done_with text, inl comes, prefix, same)
+
+pub job_answers : (words : List (List ℕ)) (files : Files) (before now : Tally) (shelf shelf' : ℕ) (old new : Option (List ℕ)) (job : Job) (written : Result Ended Unwritten) (ended : Ended)
+    → Prepares words files before now (Ok job) → shelf' ≡ shelf → WritesOutcome (job_outcome job) old new written → MatchResult written (λ e. ended ≡ e) (λ _. ended ≡ WriteFault)
     → Answers words files (outside before shelf old) (outside now shelf' new) ended
-job_answers words files before now shelf shelf' old new job (Ok _) ended comes same output is =
-    subst (Answers words files (outside before shelf old) (outside now shelf' new)) (sym is) (job_text job, comes, output)
-job_answers words files before now shelf shelf' old new job (Err _) ended comes same prefix is =
-    subst (Answers words files (outside before shelf old) (outside now shelf' new)) (sym is) (record { ended = Done; text = job_text job }, inl comes, prefix, same)
+job_answers words files before now shelf shelf' old new (jobs.Check check) written ended comes same writes is =
+    outcome_answers words files before now shelf shelf' old new (check_job_text check) written ended comes same writes is
+job_answers words files before now shelf shelf' old new (jobs.Seq seq) written ended comes same writes is =
+    outcome_answers words files before now shelf shelf' old new (seq_job_text seq) written ended comes same writes is
 
 -- a refusal whose line was written is the answer
 refused : (words : List (List ℕ)) (files : Files) (before now : Tally) (shelf shelf' : ℕ) (old new : Option (List ℕ)) (ended : Ended)
@@ -369,22 +409,27 @@ refusal_answers words files before now shelf shelf' old new known (Err _) ended 
 
 -- What was written, over whatever shelf
 
-text_of_job : (o : Option SeqCommand) (program : Simple) (mesh : MeshLists) (text : List ℕ) → (o ≡ None → ⊥) → text ≡ done_text program mesh
-    → MatchOption o (text ≡ ending_text Usage) (λ _. ((e : Ended) × (text ≡ ending_text e)) ⊎ ((p : Simple) × (m : MeshLists) × (text ≡ done_text p m)))
-text_of_job None program mesh text some is = absurd (some refl)
-text_of_job (Some c) program mesh text some is = inr (program, mesh, is)
+text_of_job : (o : Option Invocation) (text : List ℕ) → MatchOption o ⊥ (λ c. IsDoneText c.mode text)
+    → MatchOption o (text ≡ ending_text Usage) (λ c. ((e : Ended) × (text ≡ ending_text e)) ⊎ IsDoneText c.mode text)
+text_of_job None text is = absurd is
+text_of_job (Some c) text is = inr is
 
-text_of_refusal : (o : Option SeqCommand) (ended : Ended) → (o ≡ None → ended ≡ Usage)
-    → MatchOption o (ending_text ended ≡ ending_text Usage) (λ _. ((e : Ended) × (ending_text ended ≡ ending_text e)) ⊎ ((p : Simple) × (m : MeshLists) × (ending_text ended ≡ done_text p m)))
+text_of_refusal : (o : Option Invocation) (ended : Ended) → (o ≡ None → ended ≡ Usage)
+    → MatchOption o (ending_text ended ≡ ending_text Usage) (λ c. ((e : Ended) × (ending_text ended ≡ ending_text e)) ⊎ IsDoneText c.mode (ending_text ended))
 text_of_refusal None ended usage = ap ending_text (usage refl)
 text_of_refusal (Some c) ended usage = inl (ended, refl)
 
-pub wrote_job : (words : List (List ℕ)) (old new : Option (List ℕ)) (text : List ℕ) (program : Simple) (mesh : MeshLists) (written : Result Unit Unwritten) (ended : Ended)
-    → (command_of words ≡ None → ⊥) → text ≡ done_text program mesh → Writes text old new written → MatchResult written (λ _. ended ≡ Done) (λ _. ended ≡ WriteFault)
+wrote_done : (words : List (List ℕ)) (old new : Option (List ℕ)) (text : List ℕ) (written : Result Ended Unwritten) (ended : Ended)
+    → MatchOption (command_of words) ⊥ (λ c. IsDoneText c.mode text) → WritesOutcome (done_with text) old new written → MatchResult written (λ e. ended ≡ e) (λ _. ended ≡ WriteFault)
     → Wrote words old new ended
-wrote_job words old new text program mesh (Ok _) ended some is output ends = subst (Wrote words old new) (sym ends) (program, mesh, output ∙ ap (append_known old) is)
-wrote_job words old new text program mesh (Err _) ended some is prefix ends =
-    subst (Wrote words old new) (sym ends) (text, text_of_job (command_of words) program mesh text some is, prefix)
+wrote_done words old new text (Ok e) ended is wrote ends = subst (Wrote words old new) (sym (ends ∙ wrote.0)) (text, is, wrote.1)
+wrote_done words old new text (Err _) ended is prefix ends = subst (Wrote words old new) (sym ends) (text, text_of_job (command_of words) text is, prefix)
+
+pub wrote_job : (words : List (List ℕ)) (old new : Option (List ℕ)) (job : Job) (written : Result Ended Unwritten) (ended : Ended)
+    → MatchOption (command_of words) ⊥ (λ c. IsDoneText c.mode (job_outcome job).text) → WritesOutcome (job_outcome job) old new written
+    → MatchResult written (λ e. ended ≡ e) (λ _. ended ≡ WriteFault) → Wrote words old new ended
+wrote_job words old new (jobs.Check check) written ended is writes ends = wrote_done words old new (check_job_text check) written ended is writes ends
+wrote_job words old new (jobs.Seq seq) written ended is writes ends = wrote_done words old new (seq_job_text seq) written ended is writes ends
 
 wrote_line : (words : List (List ℕ)) (shelf shelf' : ℕ) (old new : Option (List ℕ)) (known : Ended) → HasStepCause {A = Job} shelf shelf' (Err known) → new ≡ append_known old (ending_text known) → Wrote words old new known
 wrote_line words shelf shelf' old new (ReadFault x) can output = output

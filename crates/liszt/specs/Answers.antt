@@ -10,9 +10,10 @@ use Rattle.liszt_report.specs.declared.ended.Ended.TheVariants.{Done, Usage, Rea
 use Rattle.liszt_report.specs.Endings.{ending_text}
 use Rattle.liszt.specs.declared.top.Step.{Step}
 use Rattle.liszt.specs.declared.top.Step.TheVariants.{Ended as EndedNow}
-use Rattle.liszt.specs.Expected.{Outcome, refusal, ResultsIn}
-use Rattle.liszt.specs.Simple.{Simple, done_text}
+use Rattle.liszt.specs.Expected.{Outcome, done_with, refusal, Finishes, ResultsIn}
+use Rattle.liszt_tree.specs.Tree.{Main}
 use Rattle.command_words.specs.Commands.{command_of}
+use Rattle.command_words.specs.declared.command.Mode.{Mode}
 
 -- The shelf has no file of that name, or a fault that is no stray was counted in the call, the last one at that name.
 abbrev pub IsLost : Files → Tally → Tally → List ℕ → Type 0
@@ -53,16 +54,21 @@ Answers words files before now WriteFault =
     × HasShelfCause before.faults now.faults outcome.ended
 Answers words files before now ended = EndsWith words files before now ended
 
+-- A text of a command that ran, in this mode, on some program and mesh.
+abbrev pub IsDoneText : Mode → List ℕ → Type 0
+IsDoneText mode text = (tree : Main) × (mesh : MeshLists) × Finishes mode tree mesh (done_with text)
+
 -- A text that the words can result in, over any files.
 abbrev pub IsTextOf : List (List ℕ) → List ℕ → Type 0
-IsTextOf words text = MatchOption (command_of words) (text ≡ ending_text Usage) (λ _.
-    ((ended : Ended) × (text ≡ ending_text ended))
-    ⊎ ((simple : Simple) × (mesh : MeshLists) × (text ≡ done_text simple mesh)))
+IsTextOf words text = MatchOption (command_of words) (text ≡ ending_text Usage) (λ c.
+    ((ended : Ended) × (text ≡ ending_text ended)) ⊎ IsDoneText c.mode text)
 
--- What the sink took, over any shelf: the line of a refusal, the text of a program on a mesh, or a prefix of one of these.
+-- What the sink took, over any shelf: the line of a refusal, the text of the command on some program and mesh, or a prefix of
+-- one of these.
 abbrev pub Wrote : List (List ℕ) → Option (List ℕ) → Option (List ℕ) → Ended → Type 0
 Wrote words old new Done =
-    (simple : Simple) × (mesh : MeshLists) × (new ≡ append_known old (done_text simple mesh))
+    (text : List ℕ) × MatchOption (command_of words) ⊥ (λ c. IsDoneText c.mode text)
+    × (new ≡ append_known old text)
 Wrote words old new WriteFault = (text : List ℕ) × IsTextOf words text × TakesPrefix old new text
 Wrote words old new ended = new ≡ append_known old (ending_text ended)
 

@@ -12,14 +12,21 @@ use Rattle.liszt_lexer.specs.declared.token.Token.{Token}
 use Rattle.liszt_parser.specs.Grammar.{lexemes, Derives}
 use Rattle.liszt_parser.specs.ParseFault.{IsShallow, IsParseFault}
 use Rattle.liszt_tree.specs.Tree.{Main}
+use Rattle.liszt_tree.specs.Canonical.{canonical}
+use Rattle.mesh_topology.specs.Elements.{count}
+use Rattle.phase_types.specs.declared.state.CheckedProgram.{CheckedProgram}
+use Rattle.phase_types.specs.Checked.{checked_program}
 use Rattle.phase_types.specs.Walk.{check_fault}
 use Rattle.text_scan.specs.Rows.{text_rows}
 use Rattle.tet_reader.specs.Answers.{SpellTable, SpellMesh}
 use Rattle.tet_reader.specs.Faults.{node_fault, cells_fault}
 use Rattle.liszt_report.specs.declared.ended.Ended.{Ended}
 use Rattle.liszt_report.specs.declared.ended.Ended.TheVariants.{Done, Usage, Later, ReadFault}
-use Rattle.command_words.specs.Commands.{command_of, SeqCommand}
+use Rattle.command_words.specs.declared.command.Mode.{Mode}
+use Rattle.command_words.specs.declared.command.Mode.TheVariants.{Check, Seq}
+use Rattle.command_words.specs.Commands.{command_of, Invocation}
 use Rattle.liszt_report.specs.Endings.{ending_text, too_long, program_ending, mesh_ending}
+use Rattle.liszt_report.specs.Texts.{check_text}
 use Rattle.liszt_base.specs.Limits.{file_limit}
 use Rattle.liszt.specs.Simple.{Simple, IsSimple, done_text}
 
@@ -31,6 +38,10 @@ pub record Outcome : Type 0 where
 -- The outcome of a refusal: its ending and its line.
 abbrev pub refusal : Ended → Outcome
 refusal ended = record { ended = ended; text = ending_text ended }
+
+-- The outcome of a command that ran: its text.
+abbrev pub done_with : List ℕ → Outcome
+done_with text = record { ended = Done; text = text }
 
 -- THE RESULT OF A FILE'S BYTES: the value that they spell, or the ending of their first fault.
 
@@ -84,33 +95,43 @@ TakesIn {A} IsMissing files input name HasResult Continues outcome =
     ⊎ ((bytes : List ℕ) × (result : Result A Ended) × (file files name ≡ Some bytes)
     × Within input HasResult bytes result × Follows Continues result outcome)
 
--- A typed program that is simple is run on the mesh; each other typed program is for later.
+-- `check`: the canonical text of a typed program, its phases, and the counts of the mesh's elements.
+abbrev pub ChecksOn : Main → MeshLists → Outcome → Type 0
+ChecksOn tree mesh outcome =
+    (checked : CheckedProgram) × (checked_program tree ≡ Ok checked)
+    × (outcome ≡ done_with (check_text (canonical tree) checked (count mesh)))
+
+-- `seq`: a typed program that is simple is run on the mesh; each other typed program is for later.
 abbrev pub RunsOn : Main → MeshLists → Outcome → Type 0
 RunsOn tree mesh outcome =
-    ((simple : Simple) × IsSimple tree simple
-    × (outcome ≡ record { ended = Done; text = done_text simple mesh }))
+    ((simple : Simple) × IsSimple tree simple × (outcome ≡ done_with (done_text simple mesh)))
     ⊎ (((simple : Simple) → IsSimple tree simple → ⊥) × (outcome ≡ refusal Later))
 
--- A program with a fault of the checker is refused, whatever the mesh.
-abbrev pub Finishes : Main → MeshLists → Outcome → Type 0
-Finishes tree mesh outcome =
-    MatchOption (check_fault tree) (RunsOn tree mesh outcome) (λ fault. outcome ≡ refusal (program_ending fault))
+-- The outcome of a mode on a typed program and a mesh.
+abbrev pub WorksOn : Mode → Main → MeshLists → Outcome → Type 0
+WorksOn Check tree mesh outcome = ChecksOn tree mesh outcome
+WorksOn (Seq turns) tree mesh outcome = RunsOn tree mesh outcome
 
-abbrev pub TakesCells : (List ℕ → Type 0) → Files → SeqCommand → Main → PointTable → Outcome → Type 0
-TakesCells IsMissing files c tree table = TakesIn IsMissing files Ele c.ele (EleResult table) (Finishes tree)
+-- A program with a fault of the checker is refused, whatever the mode and the mesh.
+abbrev pub Finishes : Mode → Main → MeshLists → Outcome → Type 0
+Finishes mode tree mesh outcome =
+    MatchOption (check_fault tree) (WorksOn mode tree mesh outcome) (λ fault. outcome ≡ refusal (program_ending fault))
 
-abbrev pub TakesPoints : (List ℕ → Type 0) → Files → SeqCommand → Main → Outcome → Type 0
+abbrev pub TakesCells : (List ℕ → Type 0) → Files → Invocation → Main → PointTable → Outcome → Type 0
+TakesCells IsMissing files c tree table = TakesIn IsMissing files Ele c.ele (EleResult table) (Finishes c.mode tree)
+
+abbrev pub TakesPoints : (List ℕ → Type 0) → Files → Invocation → Main → Outcome → Type 0
 TakesPoints IsMissing files c tree =
     TakesIn IsMissing files Node c.node NodeResult (TakesCells IsMissing files c tree)
 
--- `seq`: the program, the points and the cells are read, in this order, and then the program is run.
-abbrev pub Seq : (List ℕ → Type 0) → Files → SeqCommand → Outcome → Type 0
-Seq IsMissing files c = TakesIn IsMissing files Program c.program ProgramResult (TakesPoints IsMissing files c)
+-- A command: the program, the points and the cells are read, in this order, and then the mode has its outcome on them.
+abbrev pub Performs : (List ℕ → Type 0) → Files → Invocation → Outcome → Type 0
+Performs IsMissing files c = TakesIn IsMissing files Program c.program ProgramResult (TakesPoints IsMissing files c)
 
 -- The outcome of a list of words, where `IsMissing` says which files are missing.
 abbrev pub ResultsIn : (List ℕ → Type 0) → List (List ℕ) → Files → Outcome → Type 0
 ResultsIn IsMissing words files outcome =
-    MatchOption (command_of words) (outcome ≡ refusal Usage) (λ c. Seq IsMissing files c outcome)
+    MatchOption (command_of words) (outcome ≡ refusal Usage) (λ c. Performs IsMissing files c outcome)
 
 -- The outcome of the words over these files, of which a file is missing where none has its name.
 abbrev pub Expected : List (List ℕ) → Files → Outcome → Type 0

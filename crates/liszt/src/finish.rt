@@ -4,11 +4,11 @@ ghost use Rattle.liszt_io.specs.Sinks.{Writes};
 ghost use Rattle.liszt_report.specs.declared.ended.Ended.TheVariants.{WriteFault as NotWritten};
 ghost use Rattle.liszt_report.specs.Endings.{ending_text};
 ghost use Rattle.liszt.specs.Answers.{Refuses};
-ghost use Rattle.liszt.specs.Internal.Steps.{job_text};
+ghost use Rattle.liszt.specs.Internal.Steps.{WritesOutcome, job_outcome};
 
 use crate::job::Job;
 use liszt_io::{Sink, WriteFault};
-use liszt_report::{Ended, write_ending, write_values};
+use liszt_report::{Ended, write_check, write_ending, write_values};
 
 /// Writes the line of a refusal and flushes.
 pub fn write_refusal<S: Sink>(out: &mut S, ended: &Ended) -> Result<(), WriteFault>
@@ -20,14 +20,29 @@ pub fn write_refusal<S: Sink>(out: &mut S, ended: &Ended) -> Result<(), WriteFau
     flush(out)
 }
 
-/// Writes the lines of a job, one for each cell, and flushes.
-pub fn write_job<S: Sink>(out: &mut S, job: &Job) -> Result<(), WriteFault>
+/// Writes the text of a job and flushes. The result is the ending of the run.
+pub fn write_job<S: Sink>(out: &mut S, job: &Job) -> Result<Ended, WriteFault>
     ensures cause { HasCause (S.faults out.old) (S.faults out.new) result }
-    ensures writes { Writes (job_text job.now) (S.output out.old) (S.output out.new) result }
+    ensures writes { WritesOutcome (job_outcome job.now) (S.output out.old) (S.output out.new)
+        result }
     ensures flushed { OnOk result (S.is_flushed out.new ≡ true) }
 {
-    write_values(out, job.name.as_slice(), job.value, job.mesh.cells().len())?;
-    flush(out)
+    write_job_text(out, job)?;
+    flush(out)?;
+    Ok(Ended::Done)
+}
+
+/// Writes the text of a job.
+fn write_job_text<S: Sink>(out: &mut S, job: &Job) -> Result<(), WriteFault>
+    ensures cause { HasCause (S.faults out.old) (S.faults out.new) result }
+    ensures writes { Writes (job_outcome job.now).text (S.output out.old) (S.output out.new) result }
+{
+    match job {
+        Job::Check(job) => write_check(out, job.text.as_slice(), &job.checked, &job.mesh),
+        Job::Seq(job) => {
+            write_values(out, job.name.as_slice(), job.value, job.mesh.cells().len())
+        }
+    }
 }
 
 /// Flushes the sink.
@@ -48,6 +63,16 @@ pub fn ended_by(written: Result<(), WriteFault>, ended: Ended) -> Ended
 {
     match written {
         Ok(()) => ended,
+        Err(_) => Ended::WriteFault,
+    }
+}
+
+/// The ending of a run, or `WriteFault` where its text was not written.
+pub fn ending_of(written: Result<Ended, WriteFault>) -> Ended
+    ensures { MatchResult written (λ ended. result ≡ ended) (λ _. result ≡ NotWritten) }
+{
+    match written {
+        Ok(ended) => ended,
         Err(_) => Ended::WriteFault,
     }
 }

@@ -1,18 +1,17 @@
-ghost use Rattle.std.specs.Prelude.{◌≡◌, ◌≤◌, ◌<◌, ◌^◌, Some, None, Ok, Err, IfOk, length};
+ghost use Rattle.std.specs.Prelude.{◌≡◌, ◌≤◌, ◌<◌, ◌^◌, Some, None, Ok, Err, IfOk, MatchOption, length};
 ghost use Rattle.liszt_base.specs.declared.answers.Input.TheVariants.{Program as TheProgram, Node, Ele};
 ghost use Rattle.liszt_io.specs.Shelves.{Files};
 ghost use Rattle.liszt_report.specs.declared.ended.Ended.TheVariants.{Usage};
 ghost use Rattle.command_words.specs.Commands.{command_of};
-ghost use Rattle.liszt_base.specs.MeshLists.{MeshLists};
 ghost use Rattle.liszt_base.specs.Limits.{file_limit, token_limit};
-ghost use Rattle.liszt.specs.Simple.{Simple, done_text};
 ghost use Rattle.liszt_tree.specs.Tree.{program_tree};
 ghost use Rattle.phase_types.specs.Checked.{item_count};
+ghost use Rattle.liszt.specs.Answers.{IsDoneText};
 ghost use Rattle.liszt.specs.Expected.{ProgramResult, NodeResult, EleResult};
-ghost use Rattle.liszt.specs.Internal.Steps.{HasStepCause, StepGives, IsItself, AreItsRows, MakesJob, Prepares, ReadsProgram, as_tree, job_text};
+ghost use Rattle.liszt.specs.Internal.Steps.{HasStepCause, StepGives, IsItself, AreItsRows, IsNumberable, Prepares, ReadsProgram, as_tree, job_outcome};
 
 use crate::job::Job;
-use crate::simple::simple_of;
+use crate::jobs::make_job;
 use command_words::command_of;
 use liszt_base::{
     ByteList, FILE_LIMIT, Input, PointTable, ProgramFault, RawMesh, Refused, WordList,
@@ -21,8 +20,7 @@ use liszt_io::{Shelf, WholeFault, read_whole};
 use liszt_lexer::tokens;
 use liszt_parser::parse;
 use liszt_report::Ended;
-use liszt_tree::{Name, Program};
-use phase_types::check;
+use liszt_tree::Program;
 use std::alloc::Global;
 use tet_reader::{read_cells, read_points};
 use text_scan::{Rows, rows_of};
@@ -33,8 +31,8 @@ pub fn prepare<F: Shelf>(alloc: Global, words: &WordList, shelf: &mut F) -> Resu
     ensures cause { HasStepCause (F.faults shelf.old) (F.faults shelf.new) result }
     ensures usage { command_of words.now ≡ None → (result ≡ Err Usage) × (shelf.new ≡ shelf.old) }
     ensures only { result ≡ Err Usage → command_of words.now ≡ None }
-    ensures job { IfOk result (λ job. (simple : Simple) × (mesh : MeshLists)
-        × (job_text job ≡ done_text simple mesh)) }
+    ensures job { IfOk result (λ job. MatchOption (command_of words.now) ⊥ (λ c.
+        IsDoneText c.mode (job_outcome job).text)) }
     ensures answers { (files : Files) → F.contents shelf.old ≡ Some files
         → Prepares words.now files (F.tally shelf.old) (F.tally shelf.new) result }
 {
@@ -44,26 +42,7 @@ pub fn prepare<F: Shelf>(alloc: Global, words: &WordList, shelf: &mut F) -> Resu
     let program = read_program_file(alloc, shelf, command.program)?;
     let points = read_node_file(alloc, shelf, command.node)?;
     let mesh = read_ele_file(alloc, shelf, command.ele, points)?;
-    make_job(alloc, &program, mesh)
-}
-
-/// The job of a simple program on a mesh. Other typed programs do not run yet. An `Err` is the ending for the first fault of a
-/// program that is not typed, or `Later`.
-fn make_job(alloc: Global, program: &Program, mesh: RawMesh) -> Result<Job, Ended>
-    requires { item_count (program_tree program.now) ≤ token_limit }
-    ensures { MakesJob (program_tree program.now) mesh result }
-{
-    check(alloc, program)?;
-    let Some(simple) = simple_of(program) else {
-        return Err(Ended::Later);
-    };
-    let mut name = Name::new(alloc);
-    name.extend(simple.name.as_slice())?;
-    Ok(Job {
-        name,
-        value: simple.first + simple.added,
-        mesh,
-    })
+    make_job(alloc, command.mode, &program, mesh)
 }
 
 /// The program of a file.
@@ -115,6 +94,7 @@ fn read_ele_file<F: Shelf>(
     ensures contents { F.contents shelf.new ≡ F.contents shelf.old }
     ensures cause { HasStepCause (F.faults shelf.old) (F.faults shelf.new) result }
     ensures not_usage { result ≡ Err Usage → ⊥ }
+    ensures numberable { IfOk result (λ mesh. IsNumberable mesh) }
     ensures answers { (files : Files) → F.contents shelf.old ≡ Some files
         → StepGives (record { files = files; input = Ele; name = name.now }) (EleResult points)
         (F.tally shelf.old) (F.tally shelf.new) result }

@@ -4,6 +4,7 @@
 mod finish;
 mod inputs;
 mod job;
+mod jobs;
 pub mod laws;
 mod simple;
 mod top;

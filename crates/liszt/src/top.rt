@@ -6,7 +6,7 @@ ghost use Rattle.command_words.specs.Commands.{command_of};
 ghost use Rattle.liszt.specs.Expected.{Outcome, Expected};
 ghost use Rattle.liszt.specs.Answers.{outside, Answers, Wrote, HasCauses, IsOutcome, ended_of};
 
-use crate::finish::{ended_by, write_job, write_refusal};
+use crate::finish::{ended_by, ending_of, write_job, write_refusal};
 use crate::inputs::prepare;
 use liszt_base::{Gate, WordList};
 use liszt_io::{Shelf, Sink};
@@ -108,7 +108,7 @@ fn run<F: Shelf, S: Sink>(alloc: Global, words: &WordList, shelf: &mut F, out: &
     ensures contents { F.contents shelf.new ≡ F.contents shelf.old }
 {
     match prepare(alloc, words, shelf) {
-        Ok(job) => ended_by(write_job(out, &job), Ended::Done),
+        Ok(job) => ending_of(write_job(out, &job)),
         Err(refusal) => ended_by(write_refusal(out, &refusal), refusal),
     }
 }

@@ -1,5 +1,9 @@
 -- What the steps before the text answer. Private functions' contracts cite it.
-use Rattle.std.specs.Prelude.{◌≡◌, ℕ, ◌⊎◌, List, length, Some, None, Result, Ok, Err}
+use Rattle.std.specs.Prelude.{◌≡◌, ℕ, ◌<◌, ◌^◌, ◌⊎◌, List, length, Option, Some, None, Result, Ok, Err}
+use Rattle.std.specs.Io.KnownBytes.{append_known}
+use Rattle.command_words.specs.declared.command.Mode.{Mode}
+use Rattle.liszt_base.specs.Corners.{IsMesh}
+use Rattle.liszt_base.specs.declared.elements.Kind.{Kind}
 use Rattle.liszt_base.specs.MeshLists.{MeshLists}
 use Rattle.liszt_base.specs.declared.answers.Input.{Input}
 use Rattle.liszt_base.specs.declared.answers.ProgramFault.{ProgramFault}
@@ -7,17 +11,23 @@ use Rattle.liszt_base.specs.declared.answers.Refused.{Refused}
 use Rattle.liszt_base.specs.declared.answers.Refused.TheVariants.{Fault, NoMemory as OutOfMemory}
 use Rattle.liszt_io.specs.Causes.{Rose}
 use Rattle.liszt_io.specs.Shelves.{Files, file, Tally}
+use Rattle.liszt_io.specs.Sinks.{TakesPrefix}
+use Rattle.liszt_io.specs.declared.outside.WriteFault.{WriteFault as Unwritten}
 use Rattle.liszt_report.specs.declared.ended.Ended.{Ended}
 use Rattle.liszt_report.specs.declared.ended.Ended.TheVariants.{Done, Later, ReadFault, WriteFault, NoMemory}
 use Rattle.liszt_report.specs.Endings.{field_text, program_ending}
+use Rattle.liszt_report.specs.Texts.{check_text}
+use Rattle.mesh_topology.specs.Elements.{corner_lists, count}
 use Rattle.liszt_tree.specs.declared.tree.Program.{Program}
 use Rattle.liszt_tree.specs.Tree.{Main, program_tree}
 use Rattle.phase_types.specs.Walk.{check_fault}
 use Rattle.text_scan.specs.Rows.{TextRows, text_rows}
+use Rattle.liszt.specs.declared.job.CheckJob.{CheckJob}
+use Rattle.liszt.specs.declared.job.SeqJob.{SeqJob}
 use Rattle.liszt.specs.declared.job.Job.{Job}
+use Rattle.liszt.specs.declared.job.Job.TheVariants as jobs
 use Rattle.liszt.specs.Answers.{IsLost}
-use Rattle.liszt.specs.Expected.{refusal, Within, ResultsIn, IsProgramFault, ProgramResult}
-use Rattle.liszt.specs.Simple.{Simple, IsSimple, done_text}
+use Rattle.liszt.specs.Expected.{Outcome, done_with, refusal, Within, RunsOn, WorksOn, ResultsIn, IsProgramFault, ProgramResult}
 
 -- The answer of a step that reads an input, and the shelf's count: it rose for a ReadFault only.
 abbrev pub HasStepCause : {A : Type 0} → ℕ → ℕ → Result A Ended → Type 0
@@ -60,19 +70,40 @@ abbrev pub AreItsRows : List ℕ → Result TextRows Ended → Type 0
 AreItsRows bytes (Ok rows) = rows ≡ text_rows bytes
 AreItsRows bytes (Err ended) = ⊥
 
--- The lines that a job writes.
-abbrev pub job_text : Job → List ℕ
-job_text job = field_text job.name (λ _. job.value) (length job.mesh.cells)
+-- A mesh whose elements can be numbered with 32 bits.
+pub record IsNumberable (lists : MeshLists) : Type 0 where
+  pub mesh : IsMesh (length lists.points) (corner_lists lists)
+  pub fits : (kind : Kind) → count lists kind < 2 ^ 32
 
--- A typed program on a mesh is a job that writes the text of a simple program, or it does not run yet. A program with a
--- fault is refused.
-abbrev pub MakesJob : Main → MeshLists → Result Job Ended → Type 0
-MakesJob tree mesh (Ok job) =
-    (simple : Simple) × IsSimple tree simple × (job_text job ≡ done_text simple mesh) × (check_fault tree ≡ None)
-MakesJob tree mesh (Err ended) =
+-- The text and the outcome of a job, before anything is written.
+abbrev pub check_job_text : CheckJob → List ℕ
+check_job_text job = check_text job.text job.checked (count job.mesh)
+
+abbrev pub seq_job_text : SeqJob → List ℕ
+seq_job_text job = field_text job.name (λ _. job.value) (length job.mesh.cells)
+
+abbrev pub job_outcome : Job → Outcome
+job_outcome (jobs.Check check) = done_with (check_job_text check)
+job_outcome (jobs.Seq seq) = done_with (seq_job_text seq)
+
+-- What a writer of an outcome does: all of its text is taken, and its ending is the result; or a prefix is taken.
+abbrev pub WritesOutcome : Outcome → Option (List ℕ) → Option (List ℕ) → Result Ended Unwritten → Type 0
+WritesOutcome outcome before now (Ok ended) = (ended ≡ outcome.ended) × (now ≡ append_known before outcome.text)
+WritesOutcome outcome before now (Err _) = TakesPrefix before now outcome.text
+
+-- The job of `seq` on a typed program, or why there is none.
+abbrev pub MakesSeqJob : Main → MeshLists → Result SeqJob Ended → Type 0
+MakesSeqJob tree mesh (Ok job) = RunsOn tree mesh (done_with (seq_job_text job))
+MakesSeqJob tree mesh (Err ended) = (ended ≡ NoMemory) ⊎ ((ended ≡ Later) × RunsOn tree mesh (refusal Later))
+
+-- A typed program on a mesh is a job with the outcome of the mode on them, or it does not run yet. A program with a fault
+-- is refused.
+abbrev pub MakesJob : Mode → Main → MeshLists → Result Job Ended → Type 0
+MakesJob mode tree mesh (Ok job) = WorksOn mode tree mesh (job_outcome job) × (check_fault tree ≡ None)
+MakesJob mode tree mesh (Err ended) =
     (ended ≡ NoMemory)
     ⊎ (((fault : ProgramFault) × (check_fault tree ≡ Some fault) × (ended ≡ program_ending fault))
-    ⊎ ((ended ≡ Later) × ((simple : Simple) → IsSimple tree simple → ⊥) × (check_fault tree ≡ None)))
+    ⊎ ((ended ≡ Later) × WorksOn mode tree mesh (refusal Later) × (check_fault tree ≡ None)))
 
 -- The result of a program's text is its tree or its first fault.
 abbrev pub ReadsProgram : List ℕ → Result Program (Refused ProgramFault) → Type 0
@@ -80,9 +111,8 @@ ReadsProgram text (Ok program) = ProgramResult text (Ok (program_tree program))
 ReadsProgram text (Err (Fault fault)) = IsProgramFault text fault
 ReadsProgram text (Err OutOfMemory) = Unit {0}
 
--- What is known before anything is written: the job whose lines are the outcome's text, or the refusal.
+-- What is known before anything is written: the job whose outcome is that of the words and files, or the refusal.
 abbrev pub Prepares : List (List ℕ) → Files → Tally → Tally → Result Job Ended → Type 0
-Prepares words files before now (Ok job) =
-    ResultsIn (IsLost files before now) words files (record { ended = Done; text = job_text job })
+Prepares words files before now (Ok job) = ResultsIn (IsLost files before now) words files (job_outcome job)
 Prepares words files before now (Err ended) =
     (ended ≡ NoMemory) ⊎ ResultsIn (IsLost files before now) words files (refusal ended)

@@ -1,7 +1,7 @@
 use Rattle.std.proofs.Common.{◌≡◌, ◌+◌, ◌∷◌, drop, map, sym, ap, ◌∙◌, None}
 use Rattle.std.specs.Option.{option_map, option_and_then}
 use Rattle.std.specs.String.{string_bytes}
-use Rattle.command_words.specs.Commands.{seq_command}
+use Rattle.command_words.specs.Commands.{invocation}
 use Rattle.command_words.specs.Internal.CommandReading.{remaining_command}
 use Rattle.command_words.proofs.WordLemmas.{word_at}
 use Rattle.command_words.proofs.command.tested_command.Goals as goal
@@ -15,7 +15,7 @@ returns-in_err-words_read c =
     word_at string_bytes c.as_slice-word-items.result.now c.loop-word.word-index c.word-item.result c.loop-word-test.true ∙ ap (λ word. word ∷ rest) (sym item) in
     let step : remaining_command c.loop-word.words_read (c.as_str.result.now ∷ rest) ≡ None =
     c.with.ensures rest ∙ ap (option_and_then (λ t. remaining_command t rest)) c.in_err-words_read.was in
-    ap (option_map seq_command) c.from_residual.ensures
+    ap (option_map invocation) c.from_residual.ensures
     ∙ sym step ∙ ap (remaining_command c.loop-word.words_read) (sym at) ∙ c.loop-word.invariant
 
 pub loop-word-preserved : goal.loop-word-preserved

@@ -1,7 +1,7 @@
 use Rattle.std.proofs.Common.{Err, Result, ap, sym, subst, ◌∙◌}
 use Rattle.std.specs.Option.{option_map}
 use Rattle.std.proofs.lemmas.Result.{err_from_is_err_and}
-use Rattle.command_words.specs.Commands.{seq_command}
+use Rattle.command_words.specs.Commands.{invocation}
 use Rattle.liszt_report.specs.declared.ended.Ended.{Ended}
 use Rattle.liszt.specs.declared.job.Job.{Job}
 use Rattle.liszt.specs.Internal.Steps.{Prepares}
@@ -27,7 +27,7 @@ returns-in_err-mesh-clause-only g c h =
 pub returns-in_err-mesh-clause-answers : goal.returns-in_err-mesh-clause-answers
 returns-in_err-mesh-clause-answers g c files h =
     let p = err_from_is_err_and c.from_residual-in_err-mesh.result c.from_residual-in_err-mesh.ensures.1 in
-    let command = sym c.in_ok-command.ensures.command ∙ ap (option_map seq_command) c.in-Some.is in
+    let command = sym c.in_ok-command.ensures.command ∙ ap (option_map invocation) c.in-Some.is in
     let first = c.in_ok-program.ensures.answers files h in
     let h₁ = c.in_ok-program.ensures.contents ∙ h in
     let second = c.in_ok-points.ensures.answers files h₁ in
@@ -40,7 +40,7 @@ returns-in_err-mesh-clause-answers g c files h =
 
 pub returns-clause-answers : goal.returns-clause-answers
 returns-clause-answers g c files h =
-    let command = sym c.in_ok-command.ensures.command ∙ ap (option_map seq_command) c.in-Some.is in
+    let command = sym c.in_ok-command.ensures.command ∙ ap (option_map invocation) c.in-Some.is in
     let first = c.in_ok-program.ensures.answers files h in
     let h₁ = c.in_ok-program.ensures.contents ∙ h in
     let second = c.in_ok-points.ensures.answers files h₁ in
@@ -49,11 +49,13 @@ returns-clause-answers g c files h =
     all_inputs c.args.words.now files _ (program_tree c.in_ok-program.program) c.in_ok-points.points c.in_ok-mesh.mesh c.make_job.result _ _ _ _ command first second third c.make_job.ensures
 
 pub returns-clause-cause : goal.returns-clause-cause
-returns-clause-cause g c = job_cause _ _ (program_tree c.in_ok-program.program) c.in_ok-mesh.mesh c.make_job.result c.make_job.ensures
+returns-clause-cause g c = job_cause _ _ _ (program_tree c.in_ok-program.program) c.in_ok-mesh.mesh c.make_job.result c.make_job.ensures
     (c.in_ok-mesh.ensures.cause ∙ c.in_ok-points.ensures.cause ∙ c.in_ok-program.ensures.cause)
 
 pub returns-clause-only : goal.returns-clause-only
-returns-clause-only g c h = absurd (job_no_usage (program_tree c.in_ok-program.program) c.in_ok-mesh.mesh c.make_job.result c.make_job.ensures h)
+returns-clause-only g c h = absurd (job_no_usage _ (program_tree c.in_ok-program.program) c.in_ok-mesh.mesh c.make_job.result c.make_job.ensures h)
 
 pub returns-clause-job : goal.returns-clause-job
-returns-clause-job g c = made_job (program_tree c.in_ok-program.program) c.in_ok-mesh.mesh c.make_job.result c.make_job.ensures
+returns-clause-job g c =
+    let command = sym c.in_ok-command.ensures.command ∙ ap (option_map invocation) c.in-Some.is in
+    made_job c.args.words.now _ (program_tree c.in_ok-program.program) c.in_ok-mesh.mesh c.make_job.result command c.make_job.ensures

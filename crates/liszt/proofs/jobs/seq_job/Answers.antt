@@ -1,13 +1,12 @@
-use Rattle.std.proofs.Common.{rules, inr, refl, Err, None, ◌≡◌, ◌≤◌, length, subst, sym, ap, ◌∙◌}
+use Rattle.std.proofs.Common.{rules, inl, inr, refl, None, ◌≡◌, ◌≤◌, length, subst, sym, ap, ◌∙◌}
 use Rattle.std.specs.Option.{option_map}
 use Rattle.liszt_tree.specs.Tree.{program_tree}
-use Rattle.std.proofs.lemmas.Result.{err_from_is_err_and}
+use Rattle.liszt.specs.Expected.{done_with}
 use Rattle.liszt.specs.Simple.{Simple}
 use Rattle.liszt.specs.Internal.SimpleReading.{simple_at}
-use Rattle.phase_types.proofs.FaultLemmas.{no_fault}
 use Rattle.liszt.proofs.SimpleLemmas.{found, not_simple}
-use Rattle.liszt.proofs.StepLemmas.{job_refused, value_is, value_fits, job_text_is}
-use Rattle.liszt.proofs.inputs.make_job.Goals as goal
+use Rattle.liszt.proofs.StepLemmas.{value_is, value_fits, job_text_is}
+use Rattle.liszt.proofs.jobs.seq_job.Goals as goal
 
 pub overflow_add-result : goal.overflow_add-result
 overflow_add-result c =
@@ -28,20 +27,11 @@ pub returns : goal.returns
 returns c =
     let s = c.in-Some.simple in
     let simple : Simple = record { name = s.name.now; first = s.first; added = s.added } in
-    let is = found (program_tree c.args.program.now) simple (sym c.simple_of.ensures ∙ ap (option_map (λ s. record { name = s.name.now; first = s.first; added = s.added })) c.in-Some.is) in (
-      simple,
-      is,
-      job_text_is simple c.args.mesh _ _ (search rules) (value_is s.first s.added is.first is.added),
-      no_fault (program_tree c.args.program.now) c.in_ok-check.ensures.typed,
-    )
+    let is = found (program_tree c.args.program.now) simple (sym c.simple_of.ensures ∙ ap (option_map (λ s. record { name = s.name.now; first = s.first; added = s.added })) c.in-Some.is) in
+    inl (simple, is, ap done_with (job_text_is simple c.args.mesh _ _ (search rules) (value_is s.first s.added is.first is.added)))
 
 pub returns-in_default : goal.returns-in_default
 returns-in_default c =
     let tree = program_tree c.args.program.now in
     let none : None ≡ simple_at tree = rw c.in_default.is at c.simple_of.ensures in
-    inr (inr (refl, not_simple tree (sym none), no_fault tree c.in_ok-check.ensures.typed))
-
-pub returns-in_err-check : goal.returns-in_err-check
-returns-in_err-check c =
-    let p = err_from_is_err_and c.from_residual.result c.from_residual.ensures.1 in
-    job_refused (program_tree c.args.program.now) c.args.mesh c.from_residual.result c.in_err-check.field-0.0 c.in_err-check.ensures.gives (p.1 ∙ ap Err p.2)
+    inr (refl, inr (not_simple tree (sym none), refl))
