@@ -230,7 +230,7 @@ partial_after_folds : (c : Comprehension) (scalar : ℕ) (op : Op) → mode_in c
 partial_after_folds c scalar op is [] all partials below = refl
 partial_after_folds c scalar op is (folded ∷ folds) all partials below =
     let later = partial_after_folds c scalar op is folds all.1 (partials_after_fold partials folded)
-        (omega (arith, below, length-set partials folded.scalar (fold folded.op (get_or partials folded.scalar (pos 0)) folded.value))) in
+    (omega (arith, below, length-set partials folded.scalar (fold folded.op (get_or partials folded.scalar (pos 0)) folded.value))) in
     elim (eqb_tells scalar folded.scalar) [
       | inl h ↦
           let same : folded.op ≡ op = op_of folded.op op (sym all.0 ∙ ap (λ scalar. mode_in c (OfScalar scalar)) (sym h.1) ∙ is) in
