@@ -1,6 +1,6 @@
 use Rattle.std.proofs.Common.{rules, length, ap, arith}
 use Rattle.mesh_topology.proofs.CountLemmas.{fits}
-use Rattle.stencil_tests.proofs.reading.read_short_mesh.Goals as goal
+use Rattle.program_tests.proofs.reading.read_short_mesh.Goals as goal
 
 pub build-requires-clause-fits : goal.build-requires-clause-fits
 build-requires-clause-fits c =

@@ -1,7 +1,7 @@
 //! The stencils of programs on meshes.
 
 use crate::reading::{checked_program, mesh_of};
-use crate::rows::ROWS;
+use crate::stencil_rows::ROWS;
 use liszt_base::{LimitFault, Mode, Op, Refused};
 use mesh_topology::Mesh;
 use phase_types::Checked;
