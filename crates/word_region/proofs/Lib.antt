@@ -1,0 +1,4 @@
+pub mod ChainLemmas
+pub mod WordLemmas
+pub mod TableLemmas
+pub mod RegionLemmas

@@ -1,0 +1,2 @@
+-- Definitions on which no public contract rests.
+pub mod Tables
