@@ -1,0 +1,4 @@
+pub mod AgreementLemmas
+pub mod IterationLemmas
+pub mod SequenceLemmas
+pub mod OrderLemmas
