@@ -10,7 +10,7 @@ use std::process::ExitCode;
 const RANGE: u128 = 1_000_000_000_000_000;
 
 /// The name of a fault, or a limit that is passed.
-enum Fault {
+pub enum Fault {
     Mesh(&'static str, &'static str, usize),
     Limit(&'static str, usize),
 }
@@ -213,8 +213,8 @@ fn points(bytes: &[u8]) -> Result<(Vec<Point>, i64), Fault> {
     Ok((list, base))
 }
 
-struct Cell {
-    corners: [u32; 4],
+pub struct Cell {
+    pub corners: [u32; 4],
     _region: i64,
     line: u32,
 }
@@ -318,7 +318,8 @@ fn fit_together(cells: &[Cell]) -> Result<(), Fault> {
     }
 }
 
-fn mesh(node: &[u8], ele: &[u8]) -> Result<Vec<Cell>, Fault> {
+/// The cells of a mesh, or the first fault of its two files.
+pub fn mesh(node: &[u8], ele: &[u8]) -> Result<Vec<Cell>, Fault> {
     let (points, base) = points(node)?;
     let cells = cells(ele, points.len(), base)?;
     fit_together(&cells)?;
