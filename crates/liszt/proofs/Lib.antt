@@ -1,4 +1,4 @@
-pub mod OutcomeLemmas
-pub mod StepLemmas
-pub mod SimpleLemmas
 pub mod MeshLemmas
+pub mod OutcomeLemmas
+pub mod RunLemmas
+pub mod StepLemmas

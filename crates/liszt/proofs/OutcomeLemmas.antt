@@ -1,5 +1,5 @@
 -- Words and files have one outcome, and the top call answers it.
-use Rattle.std.proofs.Common.{◌≡◌, ℕ, inl, inr, List, length, Option, Some, None, Result, Ok, Err, MatchOption, Bool, true, false, nat_lt, refl, sym, ap, subst, ◌∙◌, arith, ltb-false, ltb-true}
+use Rattle.std.proofs.Common.{◌≡◌, ℕ, inl, inr, List, length, Option, Some, None, Result, Ok, Err, MatchOption, MatchResult, Bool, true, false, nat_lt, refl, sym, ap, subst, ◌∙◌, arith, ltb-false, ltb-true}
 use Rattle.std.specs.Io.KnownBytes.{append_known}
 use Rattle.liszt_base.specs.declared.answers.Input.{Input}
 use Rattle.liszt_base.specs.declared.answers.Input.TheVariants.{Program, Node, Ele}
@@ -12,14 +12,10 @@ use Rattle.liszt_parser.specs.ParseFault.{IsParseFault}
 use Rattle.liszt_parser.proofs.OneTree.{one_tree_derived}
 use Rattle.liszt_parser.proofs.OneFault.{one as one_fault}
 use Rattle.liszt_parser.proofs.SomeFault.{some_fault}
-use Rattle.liszt.specs.Simple.{Simple, IsSimple}
-use Rattle.liszt.specs.Internal.SimpleReading.{simple_at}
-use Rattle.liszt.proofs.SimpleLemmas.{found, again}
 use Rattle.liszt_base.specs.declared.mesh.PointTable.{PointTable}
 use Rattle.liszt_base.specs.MeshLists.{MeshLists}
 use Rattle.liszt_base.specs.Limits.{file_limit}
 use Rattle.liszt_report.specs.Endings.{too_long, program_ending, mesh_ending}
-use Rattle.liszt.specs.Simple.{done_text}
 use Rattle.liszt_io.specs.Causes.{Rose}
 use Rattle.liszt_io.specs.Shelves.{Files, file, Tally}
 use Rattle.liszt_base.specs.declared.answers.MeshFault.{MeshFault}
@@ -37,11 +33,22 @@ use Rattle.tet_reader.specs.Faults.{node_fault, cells_fault}
 use Rattle.tet_reader.proofs.Lists.{one_point_list, node_spelled, node_passes}
 use Rattle.tet_reader.proofs.EleReading.{mesh_spelled_over, mesh_passes_over, one_mesh_over}
 use Rattle.liszt_report.specs.declared.ended.Ended.{Ended}
-use Rattle.liszt_report.specs.declared.ended.Ended.TheVariants.{Done, Usage, Later, Program as OfProgram, Mesh, Limit, Trap, ReadFault, WriteFault, NoMemory}
+use Rattle.liszt_report.specs.declared.ended.Ended.TheVariants.{Done, Usage, Program as OfProgram, Mesh, Limit, Trap, ReadFault, WriteFault, NoMemory}
 use Rattle.command_words.specs.declared.command.Mode.{Mode}
 use Rattle.command_words.specs.declared.command.Mode.TheVariants.{Check, Seq}
 use Rattle.command_words.specs.Commands.{command_of, Invocation}
 use Rattle.liszt.specs.Expected.{RunsOn, Outcome, refusal, Within, Follows, IsProgramFault, ProgramResult, NodeResult, EleResult, TakesIn, Finishes, TakesCells, TakesPoints, Performs, ChecksOn, WorksOn, done_with, ResultsIn, Expected}
+use Rattle.std.specs.Prelude.{is_some}
+use Rattle.liszt_base.specs.Corners.{IsMesh}
+use Rattle.mesh_topology.specs.Elements.{corner_lists}
+use Rattle.liszt_base.specs.declared.answers.LimitFault.{LimitFault}
+use Rattle.liszt_base.specs.declared.answers.RunEnd.{RunEnd}
+use Rattle.phase_types.specs.Environments.{fields_of}
+use Rattle.seq_meaning.specs.FieldStores.{StoreWords, prepared_store}
+use Rattle.seq_meaning.specs.Runs.{run_end}
+use Rattle.seq_meaning.proofs.TypedRunLemmas.{run_ends}
+use Rattle.liszt.proofs.MeshLemmas.{is_mesh}
+use Rattle.liszt.specs.Expected.{run_outcome}
 use Rattle.liszt.specs.Answers.{outside, IsLost, EndsWith, Answers, HasCauses, IsOutcome}
 
 -- One outcome
@@ -128,14 +135,14 @@ one_ele table bytes (Err e) (Ok n) h i = let none = mesh_passes_over table (text
 one_ele table bytes (Err e) (Err f) h i =
     ap Err (h.2 ∙ (ap mesh_ending (same_fault (cells_fault (length table.list) table.base (text_rows bytes)) h.0 i.0 h.1 i.1) ∙ sym i.2))
 
-one_simple : (tree : Main) (s t : Simple) → IsSimple tree s → IsSimple tree t → s ≡ t
-one_simple tree s t h i = let a = again tree s h in let b = again tree t i in cc
-
-one_run : (tree : Main) (mesh : MeshLists) → IsOne (RunsOn tree mesh)
-one_run tree mesh a b (inl h) (inl i) = h.2 ∙ (ap (λ s. done_with (done_text s mesh)) (one_simple tree h.0 i.0 h.1 i.1) ∙ sym i.2)
-one_run tree mesh a b (inl h) (inr i) = absurd (i.0 h.0 h.1)
-one_run tree mesh a b (inr h) (inl i) = absurd (h.0 i.0 i.1)
-one_run tree mesh a b (inr h) (inr i) = h.1 ∙ sym i.1
+one_run : (turns : ℕ) (tree : Main) (mesh : MeshLists) → IsOne (RunsOn turns tree mesh)
+one_run turns tree mesh a b h i = go (prepared_store (fields_of tree) mesh) h i where
+  go : (store : Result StoreWords LimitFault)
+      → MatchResult store (λ words. (end : RunEnd) × (run_end mesh tree turns ≡ Some end) × (a ≡ run_outcome mesh tree turns end)) (λ fault. a ≡ refusal (Limit fault))
+      → MatchResult store (λ words. (end : RunEnd) × (run_end mesh tree turns ≡ Some end) × (b ≡ run_outcome mesh tree turns end)) (λ fault. b ≡ refusal (Limit fault))
+      → a ≡ b
+  go (Ok words) h i = let same : Some h.0 ≡ Some i.0 = sym h.1 ∙ i.1 in let end : h.0 ≡ i.0 = cc in h.2 ∙ ap (run_outcome mesh tree turns) end ∙ sym i.2
+  go (Err fault) h i = h ∙ sym i
 
 -- a tree has one checked program
 same_checked : (tree : Main) (c d : CheckedProgram) → checked_program tree ≡ Ok c → checked_program tree ≡ Ok d → c ≡ d
@@ -147,7 +154,7 @@ one_check tree mesh a b h i =
 
 one_work : (mode : Mode) (tree : Main) (mesh : MeshLists) → IsOne (WorksOn mode tree mesh)
 one_work Check tree mesh = one_check tree mesh
-one_work (Seq turns) tree mesh = one_run tree mesh
+one_work (Seq turns) tree mesh = one_run turns tree mesh
 
 one_finish : (mode : Mode) (tree : Main) (mesh : MeshLists) → IsOne (Finishes mode tree mesh)
 one_finish mode tree mesh = go (check_fault tree) where
@@ -215,7 +222,6 @@ pub complete : (words : List (List ℕ)) (files : Files) (before now : Tally) (s
     → (Rose before.others now.others → ⊥) → (Rose sink sink' → ⊥) → IsOutcome outcome old new ended
 complete words files before now shelf shelf' sink sink' old new Done outcome a c x none whole = ending_is_outcome words files before now shelf shelf' old new Done outcome none a x
 complete words files before now shelf shelf' sink sink' old new Usage outcome a c x none whole = ending_is_outcome words files before now shelf shelf' old new Usage outcome none a x
-complete words files before now shelf shelf' sink sink' old new Later outcome a c x none whole = ending_is_outcome words files before now shelf shelf' old new Later outcome none a x
 complete words files before now shelf shelf' sink sink' old new (OfProgram f) outcome a c x none whole = ending_is_outcome words files before now shelf shelf' old new (OfProgram f) outcome none a x
 complete words files before now shelf shelf' sink sink' old new (Mesh f) outcome a c x none whole = ending_is_outcome words files before now shelf shelf' old new (Mesh f) outcome none a x
 complete words files before now shelf shelf' sink sink' old new (Limit f) outcome a c x none whole = ending_is_outcome words files before now shelf shelf' old new (Limit f) outcome none a x
@@ -236,18 +242,18 @@ some_within {A} input HasResult some bytes = go (nat_lt file_limit (length bytes
     go true is = (Err (too_long input), inl (ltb-true file_limit (length bytes) is, refl))
     go false is = let answer = some bytes in (answer.0, inr (ltb-false file_limit (length bytes) is, answer.1))
 
-some_follows : {A : Type 0} (Continues : A → Outcome → Type 0) (answer : Result A Ended) → ((value : A) → (outcome : Outcome) × Continues value outcome)
+some_follows : {A : Type 0} (Continues : A → Outcome → Type 0) (answer : Result A Ended) → ((value : A) → answer ≡ Ok value → (outcome : Outcome) × Continues value outcome)
     → (outcome : Outcome) × Follows Continues answer outcome
-some_follows Continues (Ok value) rest = rest value
+some_follows Continues (Ok value) rest = rest value refl
 some_follows Continues (Err ended) rest = (refusal ended, refl)
 
 some_input : {A : Type 0} (files : Files) (input : Input) (name : List ℕ) (HasResult : List ℕ → Result A Ended → Type 0) (Continues : A → Outcome → Type 0) (held : Option (List ℕ))
-    → HasSomeResult HasResult → ((value : A) → (outcome : Outcome) × Continues value outcome)
+    → HasSomeResult HasResult → ((bytes : List ℕ) (value : A) → Within input HasResult bytes (Ok value) → (outcome : Outcome) × Continues value outcome)
     → file files name ≡ held → (outcome : Outcome) × TakesIn (λ n. file files n ≡ None) files input name HasResult Continues outcome
 some_input files input name HasResult Continues None some rest is = (refusal (ReadFault input), inl (is, refl))
 some_input files input name HasResult Continues (Some bytes) some rest is =
     let answer = some_within input HasResult some bytes in
-    let more = some_follows Continues answer.0 rest in
+    let more = some_follows Continues answer.0 (λ value e. rest bytes value (subst (Within input HasResult bytes) e answer.1)) in
     (more.0, inr (bytes, answer.0, is, answer.1, more.1))
 
 some_program : HasSomeResult ProgramResult
@@ -261,26 +267,33 @@ some_program bytes = go (tokens_of bytes) refl where
   go (Ok ts) is = let f = some_fault (lexemes bytes ts) (end_of bytes) in at ts is f.0 f.1
   go (Err fault) is = (Err (program_ending fault), (fault, inl is, refl))
 
-some_run : (tree : Main) (mesh : MeshLists) → (outcome : Outcome) × RunsOn tree mesh outcome
-some_run tree mesh = go (simple_at tree) refl where
-  go : (read : Option Simple) → simple_at tree ≡ read → (outcome : Outcome) × RunsOn tree mesh outcome
-  go (Some s) is = (done_with (done_text s mesh), inl (s, found tree s is, refl))
-  go None is = (refusal Later, inr (λ s h. let a = again tree s h in absurd cc, refl))
+some_run : (turns : ℕ) (tree : Main) (mesh : MeshLists) → IsMesh (length mesh.points) (corner_lists mesh) → check_fault tree ≡ None → (outcome : Outcome) × RunsOn turns tree mesh outcome
+some_run turns tree mesh is_mesh none = go (prepared_store (fields_of tree) mesh) refl where
+  ended : (end : Option RunEnd) → is_some end ≡ true → run_end mesh tree turns ≡ end → (end : RunEnd) × (run_end mesh tree turns ≡ Some end)
+  ended (Some end) some is = (end, is)
+  ended None some is = absurd cc
+
+  go : (store : Result StoreWords LimitFault) → prepared_store (fields_of tree) mesh ≡ store
+      → (outcome : Outcome) × MatchResult store (λ words. (end : RunEnd) × (run_end mesh tree turns ≡ Some end) × (outcome ≡ run_outcome mesh tree turns end)) (λ fault. outcome ≡ refusal (Limit fault))
+  go (Ok words) is =
+      let end = ended (run_end mesh tree turns) (run_ends mesh turns is_mesh tree (is_typed tree none)) refl in
+      (run_outcome mesh tree turns end.0, (end.0, end.1, refl))
+  go (Err fault) is = (refusal (Limit fault), refl)
 
 some_check : (tree : Main) (mesh : MeshLists) → check_fault tree ≡ None → (outcome : Outcome) × ChecksOn tree mesh outcome
 some_check tree mesh none =
     let c = typed_is_checked tree (is_typed tree none) in
     (done_with (check_text (canonical tree) c.0 (count mesh)), (c.0, c.1, refl))
 
-some_work : (mode : Mode) (tree : Main) (mesh : MeshLists) → check_fault tree ≡ None → (outcome : Outcome) × WorksOn mode tree mesh outcome
-some_work Check tree mesh none = some_check tree mesh none
-some_work (Seq turns) tree mesh none = some_run tree mesh
+some_work : (mode : Mode) (tree : Main) (mesh : MeshLists) → IsMesh (length mesh.points) (corner_lists mesh) → check_fault tree ≡ None → (outcome : Outcome) × WorksOn mode tree mesh outcome
+some_work Check tree mesh is_mesh none = some_check tree mesh none
+some_work (Seq turns) tree mesh is_mesh none = some_run turns tree mesh is_mesh none
 
-some_finish : (mode : Mode) (tree : Main) (mesh : MeshLists) → (outcome : Outcome) × Finishes mode tree mesh outcome
-some_finish mode tree mesh = go (check_fault tree) refl where
+some_finish : (mode : Mode) (tree : Main) (mesh : MeshLists) → IsMesh (length mesh.points) (corner_lists mesh) → (outcome : Outcome) × Finishes mode tree mesh outcome
+some_finish mode tree mesh is_mesh = go (check_fault tree) refl where
   go : (fault : Option ProgramFault) → check_fault tree ≡ fault
       → (outcome : Outcome) × MatchOption fault (WorksOn mode tree mesh outcome) (λ f. outcome ≡ refusal (program_ending f))
-  go None is = some_work mode tree mesh is
+  go None is = some_work mode tree mesh is_mesh is
   go (Some fault) is = (refusal (program_ending fault), refl)
 
 some_node : HasSomeResult NodeResult
@@ -297,15 +310,19 @@ some_ele table bytes = go (cells_fault (length table.list) table.base (text_rows
     go None is = let m = mesh_spelled_over table (text_rows bytes) is in (Ok m.0, m.1)
     go (Some f) is = (Err (mesh_ending f), (f, is, refl))
 
+mesh_within : (table : PointTable) (bytes : List ℕ) (mesh : MeshLists) → Within Ele (EleResult table) bytes (Ok mesh) → IsMesh (length mesh.points) (corner_lists mesh)
+mesh_within table bytes mesh (inl long) = let e = long.1 in absurd cc
+mesh_within table bytes mesh (inr spelled) = is_mesh table (text_rows bytes) mesh spelled.1
+
 some_command : (files : Files) (o : Option Invocation)
     → (outcome : Outcome) × MatchOption o (outcome ≡ refusal Usage) (λ c. Performs (λ n. file files n ≡ None) files c outcome)
 some_command files None = (refusal Usage, refl)
 some_command files (Some c) =
     let Lost : List ℕ → Type 0 = λ n. file files n ≡ None in
-    some_input files Program c.program ProgramResult (TakesPoints Lost files c) (file files c.program) some_program (λ program.
-    some_input files Node c.node NodeResult (TakesCells Lost files c program) (file files c.node) some_node (λ table.
+    some_input files Program c.program ProgramResult (TakesPoints Lost files c) (file files c.program) some_program (λ program_bytes program program_is.
+    some_input files Node c.node NodeResult (TakesCells Lost files c program) (file files c.node) some_node (λ node_bytes table table_is.
     some_input files Ele c.ele (EleResult table) (Finishes c.mode program) (file files c.ele) (some_ele table)
-    (some_finish c.mode program)
+    (λ ele_bytes mesh mesh_is. some_finish c.mode program mesh (mesh_within table ele_bytes mesh mesh_is))
     refl) refl) refl
 
 pub some_expected : (words : List (List ℕ)) (files : Files) → (outcome : Outcome) × Expected words files outcome

@@ -1,10 +1,7 @@
 -- The steps that read the inputs, joined.
-use Rattle.std.proofs.Common.{◌≡◌, ℕ, ◌≤◌, inl, inr, List, [], length, Option, Some, None, MatchOption, MatchResult, Result, Ok, Err, refl, sym, ap, subst, ◌∙◌, arith, ℤ, pos, ◌+ℤ◌, ◌≤ℤ◌, ◌⊎◌}
-use Rattle.std.specs.Prelude.{IfOk, FitsSigned}
-use Rattle.std.proofs.lemmas.Int.{ints, to_z-of_z}
+use Rattle.std.proofs.Common.{◌≡◌, ℕ, ◌≤◌, inl, inr, List, [], length, Option, Some, None, MatchOption, MatchResult, Result, Ok, Err, refl, sym, ap, subst, ◌∙◌, arith, ℤ, ◌⊎◌}
+use Rattle.std.specs.Prelude.{IfOk}
 use Rattle.std.proofs.lemmas.List.{length-map}
-use mir.Syntax.{w64}
-use mir.Val.{to_z, of_z}
 use Rattle.liszt_base.specs.declared.answers.Input.{Input}
 use Rattle.liszt_base.specs.declared.answers.Input.TheVariants.{Program, Node, Ele}
 use Rattle.liszt_base.specs.declared.mesh.PointTable.{PointTable}
@@ -15,9 +12,8 @@ use Rattle.liszt_io.specs.Causes.{HasCause}
 use Rattle.liszt_io.specs.Sinks.{TakesPrefix, Writes}
 use Rattle.liszt_io.specs.Shelves.{Files, Tally, FailsAt}
 use Rattle.liszt_tree.specs.Tree.{Main}
-use Rattle.liszt.specs.Simple.{Simple, IsSmall}
 use Rattle.liszt_report.specs.declared.ended.Ended.{Ended}
-use Rattle.liszt_report.specs.declared.ended.Ended.TheVariants.{Done, Usage, Later, Program as OfProgram, Mesh, Limit, Trap, ReadFault, WriteFault, NoMemory}
+use Rattle.liszt_report.specs.declared.ended.Ended.TheVariants.{Done, Usage, Program as OfProgram, Mesh, Limit, Trap, ReadFault, WriteFault, NoMemory}
 use Rattle.liszt.specs.declared.job.Job.{Job}
 use Rattle.liszt.specs.declared.job.Job.TheVariants as jobs
 use Rattle.liszt.specs.declared.job.CheckJob.{CheckJob}
@@ -31,11 +27,14 @@ use Rattle.phase_types.specs.declared.state.CheckedProgram.{CheckedProgram}
 use Rattle.command_words.specs.Commands.{command_of, Invocation}
 use Rattle.liszt_base.specs.declared.answers.Refused.{Refused}
 use Rattle.liszt_base.specs.declared.answers.Refused.TheVariants.{Fault, NoMemory as OutOfMemory}
-use Rattle.liszt_report.specs.Endings.{ending_text, program_ending, ending_of, field_text, too_long}
-use Rattle.liszt.specs.Simple.{done_text}
+use Rattle.liszt_report.specs.Endings.{ending_text, program_ending, ending_of, too_long}
 use Rattle.liszt.specs.Expected.{Outcome, refusal, Within, ProgramResult, NodeResult, EleResult, TakesIn, Finishes, TakesCells, TakesPoints, Performs, WorksOn, done_with, ResultsIn}
-use Rattle.liszt.specs.Answers.{outside, IsDoneText, IsLost, Answers, Wrote, HasCauses, HasShelfCause}
-use Rattle.liszt.specs.Internal.Steps.{HasStepCause, StepGives, input_at, MakesJob, MakesSeqJob, Prepares, ReadsProgram, WritesOutcome, check_job_text, job_outcome, seq_job_text}
+use Rattle.liszt_base.specs.declared.answers.RunEnd.{RunEnd}
+use Rattle.liszt_base.specs.declared.answers.RunEnd.TheVariants.{Done as IsDone, Trap as IsTrap}
+use Rattle.liszt_base.specs.declared.answers.Trap.{Trap as RunTrap}
+use Rattle.liszt.specs.Expected.{outcome_of_run}
+use Rattle.liszt.specs.Answers.{outside, IsRunOutcome, IsLost, Answers, Wrote, HasCauses, HasShelfCause}
+use Rattle.liszt.specs.Internal.Steps.{HasStepCause, StepGives, input_at, MakesJob, MakesSeqJob, Prepares, ReadsProgram, WritesOutcome, check_job_text, job_outcome}
 use Rattle.liszt_lexer.specs.Lexed.{LexedText, lexed_text}
 use Rattle.liszt_lexer.proofs.LexedTextLemmas.{lexed_parts}
 use Rattle.liszt_parser.specs.Grammar.{lexeme, lexemes}
@@ -184,11 +183,6 @@ ele_refused words files c program table before t u now ended is first second thi
     (input_refused files Ele c.ele (EleResult table) (Finishes c.mode program) before now ended third')
 
 -- the lines of a job are the text of its program on its mesh
-pub job_text_is : (simple : Simple) (mesh : MeshLists) (name : List ℕ) (value : ℤ) → name ≡ simple.name → value ≡ simple.first +ℤ simple.added
-    → field_text name (λ _. value) (length mesh.cells) ≡ done_text simple mesh
-job_text_is simple mesh name value e f =
-    ap (λ (n : List ℕ). field_text n (λ _. value) (length mesh.cells)) e ∙ ap (λ (v : ℤ). field_text simple.name (λ _. v) (length mesh.cells)) f
-
 -- the outcome of a typed program is that of the mode
 typed_finishes : (mode : Mode) (tree : Main) (mesh : MeshLists) (outcome : Outcome) → check_fault tree ≡ None → WorksOn mode tree mesh outcome → Finishes mode tree mesh outcome
 typed_finishes mode tree mesh outcome none works =
@@ -204,8 +198,8 @@ refusal_finishes Comes mode tree mesh ended comes (inl memory) = inl memory
 refusal_finishes Comes mode tree mesh ended comes (inr (inl faulty)) =
     inr (comes (refusal ended)
     (subst (λ fault. MatchOption fault (WorksOn mode tree mesh (refusal ended)) (λ f. refusal ended ≡ refusal (program_ending f))) (sym faulty.1) (ap refusal faulty.2)))
-refusal_finishes Comes mode tree mesh ended comes (inr (inr later)) =
-    inr (subst (λ (e : Ended). Comes (refusal e)) (sym later.0) (comes (refusal Later) (typed_finishes mode tree mesh (refusal Later) later.2 later.1)))
+refusal_finishes Comes mode tree mesh ended comes (inr (inr limit)) =
+    inr (subst (λ (e : Ended). Comes (refusal e)) (sym limit.1) (comes (refusal (Limit limit.0)) (typed_finishes mode tree mesh (refusal (Limit limit.0)) limit.3 limit.2)))
 
 pub all_inputs : (words : List (List ℕ)) (files : Files) (c : Invocation) (program : Main) (table : PointTable) (mesh : MeshLists) (made : Result Job Ended) (before t u now : Tally) → command_of words ≡ Some c
     → StepGives (input_at files Program c.program) ProgramResult before t (Ok program) → StepGives (input_at files Node c.node) NodeResult t u (Ok table)
@@ -238,17 +232,17 @@ check_made mode tree mesh checked job is none typed text =
     subst (λ (m : Mode). MakesJob m tree mesh (Ok (jobs.Check job))) (sym is) ((checked, typed, ap done_with text), none)
 
 pub seq_made : (mode : Mode) (turns : ℕ) (tree : Main) (mesh : MeshLists) (job : SeqJob) → mode ≡ Seq turns → check_fault tree ≡ None
-    → MakesSeqJob tree mesh (Ok job) → MakesJob mode tree mesh (Ok (jobs.Seq job))
+    → MakesSeqJob turns tree mesh (Ok job) → MakesJob mode tree mesh (Ok (jobs.Seq job))
 seq_made mode turns tree mesh job is none runs = subst (λ (m : Mode). MakesJob m tree mesh (Ok (jobs.Seq job))) (sym is) (runs, none)
 
 pub seq_refused : (mode : Mode) (turns : ℕ) (tree : Main) (mesh : MeshLists) (made : Result Job Ended) (ended : Ended) → mode ≡ Seq turns → check_fault tree ≡ None
-    → MakesSeqJob tree mesh (Err ended) → made ≡ Err ended → MakesJob mode tree mesh made
+    → MakesSeqJob turns tree mesh (Err ended) → made ≡ Err ended → MakesJob mode tree mesh made
 seq_refused mode turns tree mesh made ended is none refused same =
     subst (λ (m : Mode). MakesJob m tree mesh made) (sym is) (subst (MakesJob (Seq turns) tree mesh) (sym same) (go refused))
   where
-    go : MakesSeqJob tree mesh (Err ended) → MakesJob (Seq turns) tree mesh (Err ended)
+    go : MakesSeqJob turns tree mesh (Err ended) → MakesJob (Seq turns) tree mesh (Err ended)
     go (inl memory) = inl memory
-    go (inr later) = inr (inr (later.0, later.1, none))
+    go (inr limit) = inr (inr (limit.0, limit.1, limit.2, none))
 
 -- the ending of a program's fault is neither Usage nor a fault of the shelf
 program_cause : (shelf shelf' : ℕ) (fault : ProgramFault) → shelf' ≡ shelf → HasStepCause {A = Job} shelf shelf' (Err (program_ending fault))
@@ -289,24 +283,20 @@ pub job_cause : (shelf shelf' : ℕ) (mode : Mode) (tree : Main) (mesh : MeshLis
 job_cause shelf shelf' mode tree mesh (Ok job) makes same = same
 job_cause shelf shelf' mode tree mesh (Err ended) (inl memory) same = subst (λ (e : Ended). HasStepCause {A = Job} shelf shelf' (Err e)) (sym memory) same
 job_cause shelf shelf' mode tree mesh (Err ended) (inr (inl faulty)) same = subst (λ (e : Ended). HasStepCause {A = Job} shelf shelf' (Err e)) (sym faulty.2) (program_cause shelf shelf' faulty.0 same)
-job_cause shelf shelf' mode tree mesh (Err ended) (inr (inr later)) same = subst (λ (e : Ended). HasStepCause {A = Job} shelf shelf' (Err e)) (sym later.0) same
+job_cause shelf shelf' mode tree mesh (Err ended) (inr (inr limit)) same = subst (λ (e : Ended). HasStepCause {A = Job} shelf shelf' (Err e)) (sym limit.1) same
 
 pub job_no_usage : (mode : Mode) (tree : Main) (mesh : MeshLists) (made : Result Job Ended) → MakesJob mode tree mesh made → made ≡ Err Usage → ⊥
 job_no_usage mode tree mesh (Ok job) makes is = absurd cc
 job_no_usage mode tree mesh (Err ended) (inl memory) is = absurd cc
 job_no_usage mode tree mesh (Err ended) (inr (inl faulty)) is = let same : program_ending faulty.0 ≡ Usage = sym faulty.2 ∙ err_is ended Usage is in program_no_usage faulty.0 same
-job_no_usage mode tree mesh (Err ended) (inr (inr later)) is = let l = later.0 in absurd cc
+job_no_usage mode tree mesh (Err ended) (inr (inr limit)) is = let l = limit.1 in absurd cc
 
-job_is_done : (job : Job) → job_outcome job ≡ done_with (job_outcome job).text
-job_is_done (jobs.Check check) = refl
-job_is_done (jobs.Seq seq) = refl
-
--- a job has a text of the command that the words name
+-- a job has an outcome of the command that the words name
 pub made_job : (words : List (List ℕ)) (c : Invocation) (tree : Main) (mesh : MeshLists) (made : Result Job Ended) → command_of words ≡ Some c → MakesJob c.mode tree mesh made
-    → IfOk made (λ job. MatchOption (command_of words) ⊥ (λ d. IsDoneText d.mode (job_outcome job).text))
+    → IfOk made (λ job. MatchOption (command_of words) ⊥ (λ d. IsRunOutcome d.mode (job_outcome job).ended (job_outcome job).text))
 made_job words c tree mesh (Ok job) is makes =
-    let own : IsDoneText c.mode (job_outcome job).text = (tree, mesh, subst (Finishes c.mode tree mesh) (job_is_done job) (job_finishes c.mode tree mesh job makes)) in
-    subst (λ (o : Option Invocation). MatchOption o ⊥ (λ d. IsDoneText d.mode (job_outcome job).text)) (sym is) own
+    let own : IsRunOutcome c.mode (job_outcome job).ended (job_outcome job).text = (tree, mesh, job_finishes c.mode tree mesh job makes) in
+    subst (λ (o : Option Invocation). MatchOption o ⊥ (λ d. IsRunOutcome d.mode (job_outcome job).ended (job_outcome job).text)) (sym is) own
 made_job words c tree mesh (Err ended) is makes = tt
 
 -- a failed file is a lost one
@@ -318,42 +308,60 @@ lost_at files name before now (inr other) = inr (other.1.others, other.1.last)
 pub no_usage : {A B : Type 0} (ended : Ended) (result : Result A Ended) → result ≡ Err ended → (◌≡◌ {A = Result B Ended} (Err ended) (Err Usage) → ⊥) → result ≡ Err Usage → ⊥
 no_usage ended result is other usage = let same : ended ≡ Usage = cc in other (ap Err same)
 
--- two numbers of at most 10^9 and their sum, as words of 64 bits
-word_of : (z : ℤ) → pos 0 ≤ℤ z → z ≤ℤ pos 2000000000 → to_z w64 (of_z w64 z) ≡ z
-word_of z low high = to_z-of_z w64 z (omega (arith, ints))
-
-pub value_is : (first added : ℤ) → IsSmall first → IsSmall added
-    → to_z w64 (of_z w64 (to_z w64 (of_z w64 first) +ℤ to_z w64 (of_z w64 added))) ≡ first +ℤ added
-value_is first added b c =
-    let one = word_of first b.0 (omega (arith, ints)) in
-    let two = word_of added c.0 (omega (arith, ints)) in
-    rw (one, two) (word_of (first +ℤ added) (omega (arith, ints)) (omega (arith, ints)))
-
-pub value_fits : (first added : ℤ) → IsSmall first → IsSmall added
-    → FitsSigned w64 (to_z w64 (of_z w64 first) +ℤ to_z w64 (of_z w64 added))
-value_fits first added b c =
-    let one = word_of first b.0 (omega (arith, ints)) in
-    let two = word_of added c.0 (omega (arith, ints)) in
-    rw (one, two) (omega (arith, ints))
-
 -- From what is known before anything is written to the answer
 
--- the answer of an outcome whose ending is Done
-outcome_answers : (words : List (List ℕ)) (files : Files) (before now : Tally) (shelf shelf' : ℕ) (old new : Option (List ℕ)) (text : List ℕ) (written : Result Ended Unwritten) (ended : Ended)
-    → ResultsIn (IsLost files before now) words files (done_with text) → shelf' ≡ shelf → WritesOutcome (done_with text) old new written
+-- the ending of a job is Done or a trap
+abbrev IsEndOfRun : Ended → Type 0
+IsEndOfRun ended = (ended ≡ Done) ⊎ ((trap : RunTrap) × (ended ≡ Trap trap))
+
+by_end : (P : Ended → Type 0) → P Done → ((trap : RunTrap) → P (Trap trap)) → (ended : Ended) → IsEndOfRun ended → P ended
+by_end P done in_trap ended (inl is) = subst P (sym is) done
+by_end P done in_trap ended (inr is) = subst P (sym is.1) (in_trap is.0)
+
+end_of_run : (end : RunEnd) (prints : List ℤ) (fields : List ℕ) → IsEndOfRun (outcome_of_run end prints fields).ended
+end_of_run IsDone prints fields = inl refl
+end_of_run (IsTrap trap) prints fields = inr (trap, refl)
+
+end_of_job : (job : Job) → IsEndOfRun (job_outcome job).ended
+end_of_job (jobs.Check check) = inl refl
+end_of_job (jobs.Seq seq) = end_of_run seq.end _ _
+
+-- the answer of the outcome of a run
+outcome_answers : (words : List (List ℕ)) (files : Files) (before now : Tally) (shelf shelf' : ℕ) (old new : Option (List ℕ)) (known : Ended) (text : List ℕ) (written : Result Ended Unwritten) (ended : Ended)
+    → IsEndOfRun known → ResultsIn (IsLost files before now) words files (record { ended = known; text = text }) → shelf' ≡ shelf → WritesOutcome (record { ended = known; text = text }) old new written
     → MatchResult written (λ e. ended ≡ e) (λ _. ended ≡ WriteFault) → Answers words files (outside before shelf old) (outside now shelf' new) ended
-outcome_answers words files before now shelf shelf' old new text (Ok e) ended comes same wrote is =
-    subst (Answers words files (outside before shelf old) (outside now shelf' new)) (sym (is ∙ wrote.0)) (text, comes, wrote.1)
-outcome_answers words files before now shelf shelf' old new text (Err _) ended comes same prefix is =
-    subst (Answers words files (outside before shelf old) (outside now shelf' new)) (sym is) (done_with text, inl comes, prefix, same)
+outcome_answers words files before now shelf shelf' old new known text (Ok e) ended ends comes same wrote is =
+    subst (Answers words files (outside before shelf old) (outside now shelf' new)) (sym (is ∙ wrote.0))
+    (by_end (λ (known : Ended). ResultsIn (IsLost files before now) words files (record { ended = known; text = text }) → Answers words files (outside before shelf old) (outside now shelf' new) known)
+    (λ comes. (text, comes, wrote.1)) (λ trap comes. (text, comes, wrote.1)) known ends comes)
+outcome_answers words files before now shelf shelf' old new known text (Err _) ended ends comes same prefix is =
+    subst (Answers words files (outside before shelf old) (outside now shelf' new)) (sym is) (record { ended = known; text = text }, inl comes, prefix, by_end (HasShelfCause shelf shelf') same (λ trap. same) known ends)
 
 pub job_answers : (words : List (List ℕ)) (files : Files) (before now : Tally) (shelf shelf' : ℕ) (old new : Option (List ℕ)) (job : Job) (written : Result Ended Unwritten) (ended : Ended)
     → Prepares words files before now (Ok job) → shelf' ≡ shelf → WritesOutcome (job_outcome job) old new written → MatchResult written (λ e. ended ≡ e) (λ _. ended ≡ WriteFault)
     → Answers words files (outside before shelf old) (outside now shelf' new) ended
-job_answers words files before now shelf shelf' old new (jobs.Check check) written ended comes same writes is =
-    outcome_answers words files before now shelf shelf' old new (check_job_text check) written ended comes same writes is
-job_answers words files before now shelf shelf' old new (jobs.Seq seq) written ended comes same writes is =
-    outcome_answers words files before now shelf shelf' old new (seq_job_text seq) written ended comes same writes is
+job_answers words files before now shelf shelf' old new job written ended comes same writes is =
+    outcome_answers words files before now shelf shelf' old new (job_outcome job).ended (job_outcome job).text written ended (end_of_job job) comes same writes is
+
+-- its causes; and it is not Usage
+end_causes : (shelf shelf' sink sink' : ℕ) (known : Ended) → IsEndOfRun known → shelf' ≡ shelf → sink' ≡ sink → HasCauses shelf shelf' sink sink' known
+end_causes shelf shelf' sink sink' known ends first second = by_end (HasCauses shelf shelf' sink sink') (first, second) (λ trap. (first, second)) known ends
+
+pub job_causes : (shelf shelf' sink sink' : ℕ) (old new : Option (List ℕ)) (job : Job) (written : Result Ended Unwritten) (ended : Ended) → shelf' ≡ shelf → HasCause sink sink' written
+    → WritesOutcome (job_outcome job) old new written → MatchResult written (λ e. ended ≡ e) (λ _. ended ≡ WriteFault) → HasCauses shelf shelf' sink sink' ended
+job_causes shelf shelf' sink sink' old new job (Ok e) ended first second wrote is =
+    subst (HasCauses shelf shelf' sink sink') (sym (is ∙ wrote.0)) (end_causes shelf shelf' sink sink' (job_outcome job).ended (end_of_job job) first second.kept)
+job_causes shelf shelf' sink sink' old new job (Err _) ended first second wrote is =
+    subst (HasCauses shelf shelf' sink sink') (sym is) (omega (arith, first), second.failed)
+
+end_no_usage : (known : Ended) → IsEndOfRun known → known ≡ Usage → ⊥
+end_no_usage known (inl done) is = let same : Done ≡ Usage = sym done ∙ is in absurd cc
+end_no_usage known (inr trap) is = let same : Trap trap.0 ≡ Usage = sym trap.1 ∙ is in absurd cc
+
+pub job_end_no_usage : (old new : Option (List ℕ)) (job : Job) (written : Result Ended Unwritten) (ended : Ended) → WritesOutcome (job_outcome job) old new written
+    → MatchResult written (λ e. ended ≡ e) (λ _. ended ≡ WriteFault) → ended ≡ Usage → ⊥
+job_end_no_usage old new job (Ok e) ended wrote is usage = end_no_usage (job_outcome job).ended (end_of_job job) (sym (is ∙ wrote.0) ∙ usage)
+job_end_no_usage old new job (Err _) ended wrote is usage = let same : WriteFault ≡ Usage = sym is ∙ usage in absurd cc
 
 -- a refusal whose line was written is the answer
 refused : (words : List (List ℕ)) (files : Files) (before now : Tally) (shelf shelf' : ℕ) (old new : Option (List ℕ)) (ended : Ended)
@@ -364,16 +372,13 @@ refused words files before now shelf shelf' old new Done comes can output = absu
 refused words files before now shelf shelf' old new WriteFault comes can output = absurd can
 refused words files before now shelf shelf' old new Usage (inl memory) can output = cc
 refused words files before now shelf shelf' old new Usage (inr comes) can output = (ending_text Usage, comes, output)
-refused words files before now shelf shelf' old new Later (inl memory) can output = cc
-refused words files before now shelf shelf' old new Later (inr comes) can output = (ending_text Later, comes, output)
 refused words files before now shelf shelf' old new (OfProgram fault) (inl memory) can output = cc
 refused words files before now shelf shelf' old new (Mesh fault) (inl memory) can output = cc
 refused words files before now shelf shelf' old new (OfProgram fault) (inr comes) can output = (ending_text (OfProgram fault), comes, output)
 refused words files before now shelf shelf' old new (Mesh fault) (inr comes) can output = (ending_text (Mesh fault), comes, output)
 refused words files before now shelf shelf' old new (Limit fault) (inl memory) can output = cc
-refused words files before now shelf shelf' old new (Trap trap) (inl memory) can output = cc
+refused words files before now shelf shelf' old new (Trap trap) comes can output = absurd can
 refused words files before now shelf shelf' old new (Limit fault) (inr comes) can output = (ending_text (Limit fault), comes, output)
-refused words files before now shelf shelf' old new (Trap trap) (inr comes) can output = (ending_text (Trap trap), comes, output)
 refused words files before now shelf shelf' old new (ReadFault x) (inl memory) can output = cc
 refused words files before now shelf shelf' old new (ReadFault x) (inr comes) can output = (ending_text (ReadFault x), comes, output)
 
@@ -383,11 +388,10 @@ shelf_cause shelf shelf' (ReadFault x) h = h
 shelf_cause shelf shelf' Done h = absurd h
 shelf_cause shelf shelf' WriteFault h = absurd h
 shelf_cause shelf shelf' Usage h = h
-shelf_cause shelf shelf' Later h = h
 shelf_cause shelf shelf' (OfProgram fault) h = h
 shelf_cause shelf shelf' (Mesh fault) h = h
 shelf_cause shelf shelf' (Limit fault) h = h
-shelf_cause shelf shelf' (Trap trap) h = h
+shelf_cause shelf shelf' (Trap trap) h = absurd h
 shelf_cause shelf shelf' NoMemory h = h
 
 -- and one whose line was not is what was being written
@@ -409,35 +413,35 @@ refusal_answers words files before now shelf shelf' old new known (Err _) ended 
 
 -- What was written, over whatever shelf
 
-text_of_job : (o : Option Invocation) (text : List ℕ) → MatchOption o ⊥ (λ c. IsDoneText c.mode text)
-    → MatchOption o (text ≡ ending_text Usage) (λ c. ((e : Ended) × (text ≡ ending_text e)) ⊎ IsDoneText c.mode text)
-text_of_job None text is = absurd is
-text_of_job (Some c) text is = inr is
+text_of_job : (o : Option Invocation) (ended : Ended) (text : List ℕ) → MatchOption o ⊥ (λ c. IsRunOutcome c.mode ended text)
+    → MatchOption o (text ≡ ending_text Usage) (λ c. ((e : Ended) × (text ≡ ending_text e)) ⊎ ((e : Ended) × IsRunOutcome c.mode e text))
+text_of_job None ended text is = absurd is
+text_of_job (Some c) ended text is = inr (ended, is)
 
 text_of_refusal : (o : Option Invocation) (ended : Ended) → (o ≡ None → ended ≡ Usage)
-    → MatchOption o (ending_text ended ≡ ending_text Usage) (λ c. ((e : Ended) × (ending_text ended ≡ ending_text e)) ⊎ IsDoneText c.mode (ending_text ended))
+    → MatchOption o (ending_text ended ≡ ending_text Usage) (λ c. ((e : Ended) × (ending_text ended ≡ ending_text e)) ⊎ ((e : Ended) × IsRunOutcome c.mode e (ending_text ended)))
 text_of_refusal None ended usage = ap ending_text (usage refl)
 text_of_refusal (Some c) ended usage = inl (ended, refl)
 
-wrote_done : (words : List (List ℕ)) (old new : Option (List ℕ)) (text : List ℕ) (written : Result Ended Unwritten) (ended : Ended)
-    → MatchOption (command_of words) ⊥ (λ c. IsDoneText c.mode text) → WritesOutcome (done_with text) old new written → MatchResult written (λ e. ended ≡ e) (λ _. ended ≡ WriteFault)
-    → Wrote words old new ended
-wrote_done words old new text (Ok e) ended is wrote ends = subst (Wrote words old new) (sym (ends ∙ wrote.0)) (text, is, wrote.1)
-wrote_done words old new text (Err _) ended is prefix ends = subst (Wrote words old new) (sym ends) (text, text_of_job (command_of words) text is, prefix)
+wrote_run : (words : List (List ℕ)) (old new : Option (List ℕ)) (known : Ended) (text : List ℕ) (written : Result Ended Unwritten) (ended : Ended) → IsEndOfRun known
+    → MatchOption (command_of words) ⊥ (λ c. IsRunOutcome c.mode known text) → WritesOutcome (record { ended = known; text = text }) old new written
+    → MatchResult written (λ e. ended ≡ e) (λ _. ended ≡ WriteFault) → Wrote words old new ended
+wrote_run words old new known text (Ok e) ended run is wrote ends = subst (Wrote words old new) (sym (ends ∙ wrote.0))
+    (by_end (λ (known : Ended). MatchOption (command_of words) ⊥ (λ c. IsRunOutcome c.mode known text) → Wrote words old new known)
+    (λ is. (text, is, wrote.1)) (λ trap is. (text, is, wrote.1)) known run is)
+wrote_run words old new known text (Err _) ended run is prefix ends = subst (Wrote words old new) (sym ends) (text, text_of_job (command_of words) known text is, prefix)
 
 pub wrote_job : (words : List (List ℕ)) (old new : Option (List ℕ)) (job : Job) (written : Result Ended Unwritten) (ended : Ended)
-    → MatchOption (command_of words) ⊥ (λ c. IsDoneText c.mode (job_outcome job).text) → WritesOutcome (job_outcome job) old new written
+    → MatchOption (command_of words) ⊥ (λ c. IsRunOutcome c.mode (job_outcome job).ended (job_outcome job).text) → WritesOutcome (job_outcome job) old new written
     → MatchResult written (λ e. ended ≡ e) (λ _. ended ≡ WriteFault) → Wrote words old new ended
-wrote_job words old new (jobs.Check check) written ended is writes ends = wrote_done words old new (check_job_text check) written ended is writes ends
-wrote_job words old new (jobs.Seq seq) written ended is writes ends = wrote_done words old new (seq_job_text seq) written ended is writes ends
+wrote_job words old new job written ended is writes ends = wrote_run words old new (job_outcome job).ended (job_outcome job).text written ended (end_of_job job) is writes ends
 
 wrote_line : (words : List (List ℕ)) (shelf shelf' : ℕ) (old new : Option (List ℕ)) (known : Ended) → HasStepCause {A = Job} shelf shelf' (Err known) → new ≡ append_known old (ending_text known) → Wrote words old new known
 wrote_line words shelf shelf' old new (ReadFault x) can output = output
-wrote_line words shelf shelf' old new Later can output = output
 wrote_line words shelf shelf' old new (OfProgram fault) can output = output
 wrote_line words shelf shelf' old new (Mesh fault) can output = output
 wrote_line words shelf shelf' old new (Limit fault) can output = output
-wrote_line words shelf shelf' old new (Trap trap) can output = output
+wrote_line words shelf shelf' old new (Trap trap) can output = absurd can
 wrote_line words shelf shelf' old new Usage can output = output
 wrote_line words shelf shelf' old new NoMemory can output = output
 wrote_line words shelf shelf' old new Done can output = absurd can
@@ -452,11 +456,10 @@ wrote_refusal words shelf shelf' old new known (Err _) ended usage can prefix en
 
 written_cause : (shelf shelf' sink sink' : ℕ) (refusal : Ended) → HasStepCause {A = Job} shelf shelf' (Err refusal) → sink' ≡ sink → HasCauses shelf shelf' sink sink' refusal
 written_cause shelf shelf' sink sink' (ReadFault x) first second = (first, second)
-written_cause shelf shelf' sink sink' Later first second = (first, second)
 written_cause shelf shelf' sink sink' (OfProgram fault) first second = (first, second)
 written_cause shelf shelf' sink sink' (Mesh fault) first second = (first, second)
 written_cause shelf shelf' sink sink' (Limit fault) first second = (first, second)
-written_cause shelf shelf' sink sink' (Trap trap) first second = (first, second)
+written_cause shelf shelf' sink sink' (Trap trap) first second = absurd first
 written_cause shelf shelf' sink sink' Usage first second = (first, second)
 written_cause shelf shelf' sink sink' NoMemory first second = (first, second)
 written_cause shelf shelf' sink sink' Done first second = absurd first
@@ -464,11 +467,10 @@ written_cause shelf shelf' sink sink' WriteFault first second = absurd first
 
 not_fallen : (shelf shelf' : ℕ) (refusal : Ended) → HasStepCause {A = Job} shelf shelf' (Err refusal) → shelf ≤ shelf'
 not_fallen shelf shelf' (ReadFault x) first = first.0
-not_fallen shelf shelf' Later first = omega (arith, first)
 not_fallen shelf shelf' (OfProgram fault) first = omega (arith, first)
 not_fallen shelf shelf' (Mesh fault) first = omega (arith, first)
 not_fallen shelf shelf' (Limit fault) first = omega (arith, first)
-not_fallen shelf shelf' (Trap trap) first = omega (arith, first)
+not_fallen shelf shelf' (Trap trap) first = absurd first
 not_fallen shelf shelf' Usage first = omega (arith, first)
 not_fallen shelf shelf' NoMemory first = omega (arith, first)
 not_fallen shelf shelf' Done first = absurd first

@@ -6,11 +6,11 @@ use Rattle.liszt_io.specs.Causes.{Rose}
 use Rattle.liszt_io.specs.Shelves.{Files, file, Tally}
 use Rattle.liszt_io.specs.Sinks.{TakesPrefix}
 use Rattle.liszt_report.specs.declared.ended.Ended.{Ended}
-use Rattle.liszt_report.specs.declared.ended.Ended.TheVariants.{Done, Usage, ReadFault, WriteFault, NoMemory}
+use Rattle.liszt_report.specs.declared.ended.Ended.TheVariants.{Done, Usage, Trap, ReadFault, WriteFault, NoMemory}
 use Rattle.liszt_report.specs.Endings.{ending_text}
 use Rattle.liszt.specs.declared.top.Step.{Step}
 use Rattle.liszt.specs.declared.top.Step.TheVariants.{Ended as EndedNow}
-use Rattle.liszt.specs.Expected.{Outcome, done_with, refusal, Finishes, ResultsIn}
+use Rattle.liszt.specs.Expected.{Outcome, refusal, Finishes, ResultsIn}
 use Rattle.liszt_tree.specs.Tree.{Main}
 use Rattle.command_words.specs.Commands.{command_of}
 use Rattle.command_words.specs.declared.command.Mode.{Mode}
@@ -54,21 +54,26 @@ Answers words files before now WriteFault =
     × HasShelfCause before.faults now.faults outcome.ended
 Answers words files before now ended = EndsWith words files before now ended
 
--- A text of a command that ran, in this mode, on some program and mesh.
-abbrev pub IsDoneText : Mode → List ℕ → Type 0
-IsDoneText mode text = (tree : Main) × (mesh : MeshLists) × Finishes mode tree mesh (done_with text)
+-- The outcome of a command that ran, in this mode, on some program and mesh.
+abbrev pub IsRunOutcome : Mode → Ended → List ℕ → Type 0
+IsRunOutcome mode ended text =
+    (tree : Main) × (mesh : MeshLists) × Finishes mode tree mesh (record { ended = ended; text = text })
 
 -- A text that the words can result in, over any files.
 abbrev pub IsTextOf : List (List ℕ) → List ℕ → Type 0
 IsTextOf words text = MatchOption (command_of words) (text ≡ ending_text Usage) (λ c.
-    ((ended : Ended) × (text ≡ ending_text ended)) ⊎ IsDoneText c.mode text)
+    ((ended : Ended) × (text ≡ ending_text ended)) ⊎ ((ended : Ended) × IsRunOutcome c.mode ended text))
 
 -- What the sink took, over any shelf: the line of a refusal, the text of the command on some program and mesh, or a prefix of
 -- one of these.
-abbrev pub Wrote : List (List ℕ) → Option (List ℕ) → Option (List ℕ) → Ended → Type 0
-Wrote words old new Done =
-    (text : List ℕ) × MatchOption (command_of words) ⊥ (λ c. IsDoneText c.mode text)
+abbrev pub WroteOutcome : List (List ℕ) → Option (List ℕ) → Option (List ℕ) → Ended → Type 0
+WroteOutcome words old new ended =
+    (text : List ℕ) × MatchOption (command_of words) ⊥ (λ c. IsRunOutcome c.mode ended text)
     × (new ≡ append_known old text)
+
+abbrev pub Wrote : List (List ℕ) → Option (List ℕ) → Option (List ℕ) → Ended → Type 0
+Wrote words old new Done = WroteOutcome words old new Done
+Wrote words old new (Trap trap) = WroteOutcome words old new (Trap trap)
 Wrote words old new WriteFault = (text : List ℕ) × IsTextOf words text × TakesPrefix old new text
 Wrote words old new ended = new ≡ append_known old (ending_text ended)
 

@@ -1,5 +1,5 @@
 -- The ending and the text in which a list of words and files result. Memory has no part in it. This project's own.
-use Rattle.std.specs.Prelude.{◌≡◌, ℕ, ◌<◌, ◌≤◌, ◌⊎◌, List, length, MatchOption, Some, None, Result, Ok, Err}
+use Rattle.std.specs.Prelude.{◌≡◌, ℕ, ◌<◌, ◌≤◌, ◌⊎◌, List, length, MatchOption, Some, None, Result, Ok, Err, ◌++◌, MatchResult, ℤ, pos, unwrap_or}
 use Rattle.liszt_base.specs.declared.answers.Input.{Input}
 use Rattle.liszt_base.specs.declared.answers.Input.TheVariants.{Program, Node, Ele}
 use Rattle.liszt_base.specs.declared.answers.MeshFault.{MeshFault}
@@ -21,14 +21,19 @@ use Rattle.text_scan.specs.Rows.{text_rows}
 use Rattle.tet_reader.specs.Answers.{SpellTable, SpellMesh}
 use Rattle.tet_reader.specs.Faults.{node_fault, cells_fault}
 use Rattle.liszt_report.specs.declared.ended.Ended.{Ended}
-use Rattle.liszt_report.specs.declared.ended.Ended.TheVariants.{Done, Usage, Later, ReadFault}
+use Rattle.liszt_report.specs.declared.ended.Ended.TheVariants.{Done, Usage, Limit, Trap, ReadFault}
 use Rattle.command_words.specs.declared.command.Mode.{Mode}
 use Rattle.command_words.specs.declared.command.Mode.TheVariants.{Check, Seq}
 use Rattle.command_words.specs.Commands.{command_of, Invocation}
 use Rattle.liszt_report.specs.Endings.{ending_text, too_long, program_ending, mesh_ending}
-use Rattle.liszt_report.specs.Texts.{check_text}
+use Rattle.liszt_report.specs.Texts.{check_text, fields_text, prints_text}
+use Rattle.phase_types.specs.Environments.{fields_of}
+use Rattle.kernel_eval.specs.States.{value_in}
+use Rattle.seq_meaning.specs.FieldStores.{prepared_store}
+use Rattle.seq_meaning.specs.Runs.{prints_of, run, run_end}
+use Rattle.liszt_base.specs.declared.answers.RunEnd.{RunEnd}
+use Rattle.liszt_base.specs.declared.answers.RunEnd.TheVariants.{Done as IsDone, Trap as IsTrap}
 use Rattle.liszt_base.specs.Limits.{file_limit}
-use Rattle.liszt.specs.Simple.{Simple, IsSimple, done_text}
 
 -- An ending and its text.
 pub record Outcome : Type 0 where
@@ -101,16 +106,32 @@ ChecksOn tree mesh outcome =
     (checked : CheckedProgram) × (checked_program tree ≡ Ok checked)
     × (outcome ≡ done_with (check_text (canonical tree) checked (count mesh)))
 
--- `seq`: a typed program that is simple is run on the mesh; each other typed program is for later.
-abbrev pub RunsOn : Main → MeshLists → Outcome → Type 0
-RunsOn tree mesh outcome =
-    ((simple : Simple) × IsSimple tree simple × (outcome ≡ done_with (done_text simple mesh)))
-    ⊎ (((simple : Simple) → IsSimple tree simple → ⊥) × (outcome ≡ refusal Later))
+-- THE OUTCOME OF A RUN, by its end: its prints, and then the text of the fields, or the line of the trap.
+abbrev pub outcome_of_run : RunEnd → List ℤ → List ℕ → Outcome
+outcome_of_run IsDone prints fields = done_with (prints_text prints ++ fields)
+outcome_of_run (IsTrap trap) prints fields =
+    record { ended = Trap trap; text = prints_text prints ++ ending_text (Trap trap) }
+
+-- The value of a field at an id in the state that a run leaves.
+abbrev pub value_left : MeshLists → Main → ℕ → ℕ → ℕ → ℤ
+value_left mesh tree turns field id =
+    unwrap_or (value_in (run mesh tree turns).after.state.fields (record { field = field; id = id })) (pos 0)
+
+abbrev pub run_outcome : MeshLists → Main → ℕ → RunEnd → Outcome
+run_outcome mesh tree turns end =
+    outcome_of_run end (prints_of mesh tree turns) (fields_text (count mesh) (value_left mesh tree turns) (fields_of tree))
+
+-- `seq`: a typed program whose declared fields have too many words is refused; every other one is run on the mesh.
+abbrev pub RunsOn : ℕ → Main → MeshLists → Outcome → Type 0
+RunsOn turns tree mesh outcome =
+    MatchResult (prepared_store (fields_of tree) mesh)
+    (λ store. (end : RunEnd) × (run_end mesh tree turns ≡ Some end) × (outcome ≡ run_outcome mesh tree turns end))
+    (λ fault. outcome ≡ refusal (Limit fault))
 
 -- The outcome of a mode on a typed program and a mesh.
 abbrev pub WorksOn : Mode → Main → MeshLists → Outcome → Type 0
 WorksOn Check tree mesh outcome = ChecksOn tree mesh outcome
-WorksOn (Seq turns) tree mesh outcome = RunsOn tree mesh outcome
+WorksOn (Seq turns) tree mesh outcome = RunsOn turns tree mesh outcome
 
 -- A program with a fault of the checker is refused, whatever the mode and the mesh.
 abbrev pub Finishes : Mode → Main → MeshLists → Outcome → Type 0

@@ -1,3 +1,2 @@
 -- Definitions on which no public contract rests.
 pub mod Steps
-pub mod SimpleReading

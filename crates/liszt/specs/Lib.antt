@@ -1,4 +1,3 @@
 pub mod Expected
 pub mod Answers
-pub mod Simple
 pub mod Internal

@@ -4,11 +4,13 @@ ghost use Rattle.liszt_io.specs.Sinks.{Writes};
 ghost use Rattle.liszt_report.specs.declared.ended.Ended.TheVariants.{WriteFault as NotWritten};
 ghost use Rattle.liszt_report.specs.Endings.{ending_text};
 ghost use Rattle.liszt.specs.Answers.{Refuses};
-ghost use Rattle.liszt.specs.Internal.Steps.{WritesOutcome, job_outcome};
+ghost use Rattle.liszt.specs.Internal.Steps.{WritesOutcome, job_outcome, seq_outcome};
 
-use crate::job::Job;
+use crate::job::{Job, SeqJob};
+use crate::store_values::StoreValues;
+use liszt_base::RunEnd;
 use liszt_io::{Sink, WriteFault};
-use liszt_report::{Ended, write_check, write_ending, write_values};
+use liszt_report::{Ended, write_check, write_ending, write_fields, write_prints};
 
 /// Writes the line of a refusal and flushes.
 pub fn write_refusal<S: Sink>(out: &mut S, ended: &Ended) -> Result<(), WriteFault>
@@ -29,7 +31,7 @@ pub fn write_job<S: Sink>(out: &mut S, job: &Job) -> Result<Ended, WriteFault>
 {
     write_job_text(out, job)?;
     flush(out)?;
-    Ok(Ended::Done)
+    Ok(ending_of_job(job))
 }
 
 /// Writes the text of a job.
@@ -39,9 +41,35 @@ fn write_job_text<S: Sink>(out: &mut S, job: &Job) -> Result<(), WriteFault>
 {
     match job {
         Job::Check(job) => write_check(out, job.text.as_slice(), &job.checked, &job.mesh),
-        Job::Seq(job) => {
-            write_values(out, job.name.as_slice(), job.value, job.mesh.cells().len())
+        Job::Seq(job) => write_run(out, job),
+    }
+}
+
+/// The ending of a job.
+fn ending_of_job(job: &Job) -> Ended
+    ensures { result ≡ (job_outcome job.now).ended }
+{
+    match job {
+        Job::Check(_) => Ended::Done,
+        Job::Seq(job) => match job.end {
+            RunEnd::Done => Ended::Done,
+            RunEnd::Trap(trap) => Ended::Trap(trap),
+        },
+    }
+}
+
+/// Writes what a run printed, and then the values of the fields of the outermost scope, or the line of its trap.
+fn write_run<S: Sink>(out: &mut S, job: &SeqJob) -> Result<(), WriteFault>
+    ensures cause { HasCause (S.faults out.old) (S.faults out.new) result }
+    ensures writes { Writes (seq_outcome job.now).text (S.output out.old) (S.output out.new) result }
+{
+    write_prints(out, job.store.prints())?;
+    match job.end {
+        RunEnd::Done => {
+            let mut values = StoreValues { store: &job.store };
+            write_fields(out, &job.checked, &job.mesh, &mut values)
         }
+        RunEnd::Trap(trap) => write_ending(out, &Ended::Trap(trap)),
     }
 }
 

@@ -6,7 +6,7 @@ ghost use Rattle.command_words.specs.Commands.{command_of};
 ghost use Rattle.liszt_base.specs.Limits.{file_limit, token_limit};
 ghost use Rattle.liszt_tree.specs.Tree.{program_tree};
 ghost use Rattle.phase_types.specs.Checked.{item_count};
-ghost use Rattle.liszt.specs.Answers.{IsDoneText};
+ghost use Rattle.liszt.specs.Answers.{IsRunOutcome};
 ghost use Rattle.liszt.specs.Expected.{ProgramResult, NodeResult, EleResult};
 ghost use Rattle.liszt.specs.Internal.Steps.{HasStepCause, StepGives, IsItself, AreItsRows, IsNumberable, Prepares, ReadsProgram, as_tree, job_outcome};
 
@@ -32,7 +32,7 @@ pub fn prepare<F: Shelf>(alloc: Global, words: &WordList, shelf: &mut F) -> Resu
     ensures usage { command_of words.now ≡ None → (result ≡ Err Usage) × (shelf.new ≡ shelf.old) }
     ensures only { result ≡ Err Usage → command_of words.now ≡ None }
     ensures job { IfOk result (λ job. MatchOption (command_of words.now) ⊥ (λ c.
-        IsDoneText c.mode (job_outcome job).text)) }
+        IsRunOutcome c.mode (job_outcome job).ended (job_outcome job).text)) }
     ensures answers { (files : Files) → F.contents shelf.old ≡ Some files
         → Prepares words.now files (F.tally shelf.old) (F.tally shelf.new) result }
 {

@@ -1,11 +1,10 @@
-//! Runs that are ready: all that they take is read and computed, and nothing is written yet.
-ghost use Rattle.std.specs.Prelude.{◌≤◌, length};
-ghost use Rattle.liszt_base.specs.Limits.{name_limit};
+//! Commands that are ready: all that they take is read and computed, and nothing is written yet.
+ghost use Rattle.seq_meaning.specs.FieldStores.{HasSpotsOf};
 
-use liszt_base::{ByteList, RawMesh};
-use liszt_tree::Name;
+use liszt_base::{ByteList, RunEnd};
 use mesh_topology::Mesh;
 use phase_types::Checked;
+use seq_meaning::SeqStore;
 
 /// A run that is ready, by the mode of its command.
 #[derive(Drop)]
@@ -22,11 +21,12 @@ pub struct CheckJob {
     pub mesh: Mesh,
 }
 
-/// A run of `seq`: the field's name, the number of each cell, and the mesh.
+/// A run of `seq`, which is over: the checked program, the mesh, and the store with what the run left and its end.
 #[derive(Drop)]
 pub struct SeqJob {
-    pub name: Name,
-    pub value: i64,
-    pub mesh: RawMesh,
-    ghost short: { length name ≤ name_limit },
+    pub checked: Checked,
+    pub mesh: Mesh,
+    pub store: SeqStore,
+    pub end: RunEnd,
+    ghost spots: { HasSpotsOf checked.fields mesh store.fields },
 }

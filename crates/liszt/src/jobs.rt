@@ -1,21 +1,21 @@
 //! Makes the jobs: checks a program, and takes the memory of its run.
-ghost use Rattle.std.specs.Prelude.{◌≡◌, ◌≤◌, IfOk};
+ghost use Rattle.std.specs.Prelude.{◌≡◌, ◌≤◌, IfOk, Ok};
 ghost use Rattle.liszt_base.specs.Limits.{token_limit};
 ghost use Rattle.liszt_report.specs.Texts.{check_text};
 ghost use Rattle.liszt_tree.specs.Canonical.{canonical};
 ghost use Rattle.liszt_tree.specs.Tree.{program_tree};
 ghost use Rattle.mesh_topology.specs.Elements.{count};
-ghost use Rattle.phase_types.specs.Checked.{item_count};
+ghost use Rattle.phase_types.specs.Checked.{checked_program, item_count};
 ghost use Rattle.liszt.specs.Internal.Steps.{IsNumberable, MakesJob, MakesSeqJob, check_job_text};
 
 use crate::job::{CheckJob, Job, SeqJob};
-use crate::simple::simple_of;
 use command_words::Mode;
-use liszt_base::{NoMemory, RawMesh};
+use liszt_base::{NoMemory, RawMesh, Refused};
 use liszt_report::Ended;
-use liszt_tree::{Name, Program, print_tree};
+use liszt_tree::{Program, print_tree};
 use mesh_topology::Mesh;
 use phase_types::{Checked, check};
+use seq_meaning::{SeqStore, run_seq};
 use std::alloc::Global;
 
 /// The job of a mode on a typed program and a mesh. An `Err` is the ending for the first fault of a program that is not typed, or of
@@ -28,7 +28,7 @@ pub fn make_job(alloc: Global, mode: Mode, program: &Program, mesh: RawMesh) -> 
     let checked = check(alloc, program)?;
     match mode {
         Mode::Check => Ok(Job::Check(check_job(alloc, program, checked, mesh)?)),
-        Mode::Seq { .. } => Ok(Job::Seq(seq_job(alloc, program, mesh)?)),
+        Mode::Seq { turns } => Ok(Job::Seq(seq_job(alloc, program, checked, mesh, turns)?)),
     }
 }
 
@@ -52,18 +52,29 @@ fn check_job(
     })
 }
 
-/// The job of `seq`, if the program is simple. Other typed programs do not run yet, and end by `Later`.
-fn seq_job(alloc: Global, program: &Program, mesh: RawMesh) -> Result<SeqJob, Ended>
-    ensures { MakesSeqJob (program_tree program.now) mesh result }
+/// The job of `seq`: the program is run. An `Err` is out of memory, or the limit of words.
+fn seq_job(
+    alloc: Global,
+    _program: &Program,
+    checked: Checked,
+    mesh: RawMesh,
+    turns: u64,
+) -> Result<SeqJob, Ended>
+    requires checked { checked_program (program_tree _program.now) ≡ Ok checked }
+    requires mesh { IsNumberable mesh }
+    ensures { MakesSeqJob turns (program_tree _program.now) mesh result }
 {
-    let Some(simple) = simple_of(program) else {
-        return Err(Ended::Later);
+    let mesh = Mesh::build(alloc, mesh)?;
+    let mut store = match SeqStore::prepare(alloc, &checked, &mesh) {
+        Ok(store) => store,
+        Err(Refused::Fault(fault)) => return Err(Ended::Limit(fault)),
+        Err(Refused::NoMemory) => return Err(Ended::NoMemory),
     };
-    let mut name = Name::new(alloc);
-    name.extend(simple.name.as_slice())?;
+    let end = run_seq(&checked, &mesh, turns, &mut store);
     Ok(SeqJob {
-        name,
-        value: simple.first + simple.added,
+        checked,
         mesh,
+        store,
+        end,
     })
 }

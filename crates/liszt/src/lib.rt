@@ -6,7 +6,7 @@ mod inputs;
 mod job;
 mod jobs;
 pub mod laws;
-mod simple;
+mod store_values;
 mod top;
 
 pub use finish::end_refused;

@@ -13,8 +13,7 @@ use Rattle.phase_types.specs.Walk.{Subject, OfField, OfScalar}
 use Rattle.phase_types.specs.declared.state.CheckedProgram.{CheckedProgram}
 use Rattle.liszt_report.specs.Internal.Places.{place_of, subject_at, nearer, nearer_access, next_place}
 use Rattle.liszt_report.specs.Texts.{subject_text, subjects_of}
-use Rattle.liszt_report.proofs.TextLemmas.{range_parts}
-use Rattle.liszt_report.proofs.WrittenLemmas.{drop_item}
+use Rattle.liszt_report.proofs.WrittenLemmas.{drop_item, range_parts}
 
 place_at : (fields place : ℕ) → place_of fields (subject_at fields place) ≡ place
 place_at fields place = elim (cases_Bool (nat_lt place fields)) [

@@ -1,5 +1,5 @@
 -- A text that a sink takes piece by piece.
-use Rattle.std.proofs.Common.{◌≡◌, ℕ, ◌+◌, ◌-◌, ◌<◌, ◌≤◌, List, [], ◌∷◌, ◌++◌, Option, Result, Ok, Err, refl, sym, ap, subst, ◌∙◌, arith, append_assoc, drop, zero, suc, Some}
+use Rattle.std.proofs.Common.{◌≡◌, ℕ, ◌+◌, ◌-◌, ◌<◌, ◌≤◌, List, [], ◌∷◌, ◌++◌, Option, Result, Ok, Err, refl, sym, ap, subst, ◌∙◌, arith, append_assoc, add-zero, zero-add, drop, zero, suc, Some}
 use Rattle.std.specs.Io.KnownBytes.{append_known}
 use Rattle.std.proofs.lemmas.List.{append-nil}
 use Rattle.std.proofs.lemmas.Option.{slice_get_within, get_or_from_slice_get}
@@ -74,9 +74,20 @@ range_none f k n end =
     let e : n - k ≡ 0 = omega arith in
     rw e refl
 
-pub range_same : (f g : ℕ → List ℕ) (a n : ℕ) → ((k : ℕ) → f k ≡ g k) → flat_map f (range_with_len a n) ≡ flat_map g (range_with_len a n)
+-- the texts of numbers, where the lines are the same
+pub range_same : (f g : ℕ → List ℕ) (a n : ℕ) → ((id : ℕ) → a ≤ id → id < a + n → f id ≡ g id) → flat_map f (range_with_len a n) ≡ flat_map g (range_with_len a n)
 range_same f g a zero same = refl
-range_same f g a (suc n) same = rw (same a) (ap (λ (l : List ℕ). g a ++ l) (range_same f g (a + 1) n same))
+range_same f g a (suc n) same =
+    ap (λ line. line ++ flat_map f (range_with_len (a + 1) n)) (same a (omega arith) (omega arith))
+    ∙ ap (λ lines. g a ++ lines) (range_same f g (a + 1) n (λ id least below. same id (omega (arith, least)) (omega (arith, below))))
+
+-- the texts of numbers from a on, and of more of them
+pub range_parts : {X : Type 0} (f : ℕ → List X) (a n m : ℕ) → flat_map f (range_with_len a (n + m)) ≡ flat_map f (range_with_len a n) ++ flat_map f (range_with_len (a + n) m)
+range_parts f a zero m = rw (zero-add m, add-zero a) refl
+range_parts f a (suc n) m =
+    let more : suc n + m ≡ suc (n + m) = omega arith in
+    let from : a + 1 + n ≡ a + suc n = omega arith in
+    rw more (rw (range_parts f (a + 1) n m) (rw from (sym (append_assoc (f a) (flat_map f (range_with_len (a + 1) n)) (flat_map f (range_with_len (a + suc n) m))))))
 
 -- the rest by another name
 pub taken_as : (text rest other : List ℕ) (before now : Option (List ℕ)) → HasTaken text rest before now → rest ≡ other → HasTaken text other before now

@@ -24,7 +24,7 @@ use Rattle.liszt_base.specs.declared.elements.Kind.{Kind}
 use Rattle.liszt_base.specs.declared.elements.Kind.TheVariants.{Vertex, Edge, Face, Cell}
 use Rattle.liszt_base.specs.Limits.{file_limit, point_limit, cell_limit, token_limit}
 use Rattle.liszt_report.specs.declared.ended.Ended.{Ended}
-use Rattle.liszt_report.specs.declared.ended.Ended.TheVariants.{Done, Usage, Later, Program as OfProgram, Mesh, Limit, Trap, ReadFault, WriteFault, NoMemory}
+use Rattle.liszt_report.specs.declared.ended.Ended.TheVariants.{Done, Usage, Program as OfProgram, Mesh, Limit, Trap, ReadFault, WriteFault, NoMemory}
 
 -- The exit status of an ending.
 abbrev pub status : Ended → ℕ
@@ -37,7 +37,6 @@ status (Trap trap) = 7
 status (ReadFault input) = 8
 status WriteFault = 9
 status NoMemory = 10
-status Later = 11
 
 -- The ending for a file of too many bytes.
 abbrev pub too_long : Input → Ended
@@ -153,7 +152,6 @@ site_text (Some elem) = kind_word elem.kind ++ (codes " " ++ decimal elem.id)
 abbrev pub ending_text : Ended → List ℕ
 ending_text Usage =
     codes "usage: liszt_run MODE PROGRAM NODE ELE [--workers N] [--ranks N] [--parts NAME] [--turns L] or self N\n"
-ending_text Later = codes "later program\n"
 ending_text (OfProgram fault) =
     codes "program " ++ (program_word fault.what ++ (codes " " ++ (place_text fault.place ++ (first_text fault.first ++ codes "\n"))))
 ending_text (Mesh fault) =

@@ -2,18 +2,19 @@
 use Rattle.std.specs.Prelude.{ℕ, ◌+◌, ◌==◌, if◌then◌else◌, ℤ, Option, Some, None, List, [], ◌∷◌, ◌++◌, map, length, slice_get, unwrap_or, codes}
 use Rattle.std.specs.List.{flat_map, range_with_len}
 use Rattle.std.specs.Fmt.{decimal, signed_decimal}
+use Rattle.liszt_base.specs.declared.accesses.Access.{Access}
 use Rattle.liszt_base.specs.declared.accesses.Mode.{Mode}
 use Rattle.liszt_base.specs.declared.accesses.Mode.TheVariants.{Read, Write, Reduce}
 use Rattle.liszt_base.specs.declared.elements.Kind.{Kind}
 use Rattle.liszt_base.specs.declared.elements.Kind.TheVariants.{Vertex, Edge, Face, Cell}
 use Rattle.liszt_base.specs.declared.elements.Op.{Op}
 use Rattle.liszt_base.specs.declared.elements.Op.TheVariants.{Add, Mul, And, Or, Xor, Min, Max}
-use Rattle.phase_types.specs.Checked.{built_in_names, checked_mode}
+use Rattle.phase_types.specs.Checked.{built_in_names, checked_kind, checked_mode}
 use Rattle.phase_types.specs.Environments.{first_declared}
 use Rattle.phase_types.specs.Walk.{Subject, OfField, OfScalar}
 use Rattle.phase_types.specs.declared.info.FieldInfo.{FieldInfo}
 use Rattle.phase_types.specs.declared.state.CheckedProgram.{CheckedProgram}
-use Rattle.liszt_report.specs.Endings.{field_text}
+use Rattle.liszt_report.specs.Endings.{field_text, kind_word}
 
 -- PRINTS: a line for each number.
 abbrev pub number_line : ℤ → List ℕ
@@ -89,3 +90,44 @@ counts_line count =
 -- THE TEXT OF A CHECKED PROGRAM: its canonical text, the phases, and the counts of elements.
 abbrev pub check_text : List ℕ → CheckedProgram → (Kind → ℕ) → List ℕ
 check_text canonical checked count = canonical ++ (phases_text checked ++ counts_line count)
+
+-- STENCILS: a line for each access of each iteration. The word of the kind of a field, by its number
+abbrev pub built_in_kinds : List Kind
+built_in_kinds = Vertex ∷ Vertex ∷ Vertex ∷ Vertex ∷ Cell ∷ []
+
+abbrev pub field_kind_words : CheckedProgram → List (List ℕ)
+field_kind_words checked = map kind_word built_in_kinds ++ [] ∷ map (λ info. kind_word info.kind) checked.fields
+
+abbrev pub field_kind_word : CheckedProgram → ℕ → List ℕ
+field_kind_word checked field = unwrap_or (slice_get (field_kind_words checked) field) []
+
+-- ` KIND ID`; `stencil COMP KIND ID NAME KIND ID MODE`.
+abbrev pub element_text : List ℕ → ℕ → List ℕ
+element_text word id = codes " " ++ (word ++ (codes " " ++ decimal id))
+
+abbrev pub access_line : CheckedProgram → ℕ → Kind → ℕ → Access → List ℕ
+access_line checked comp over id access =
+    ((codes "stencil " ++ decimal comp) ++ (element_text (kind_word over) id ++ codes " "))
+    ++ (subject_name checked (OfField access.spot.field)
+    ++ (element_text (field_kind_word checked access.spot.field) access.spot.id ++ (codes " " ++ (mode_word access.mode ++ codes "\n"))))
+
+-- the text of one iteration, of a comprehension, and of all comprehensions
+abbrev pub stencil_text : CheckedProgram → ℕ → Kind → ℕ → List Access → List ℕ
+stencil_text checked comp over id accesses = flat_map (access_line checked comp over id) accesses
+
+abbrev pub iteration_stencil : CheckedProgram → ℕ → Kind → List (List Access) → ℕ → List ℕ
+iteration_stencil checked comp over lists id = stencil_text checked comp over id (unwrap_or (slice_get lists id) [])
+
+abbrev pub stencils_over : CheckedProgram → ℕ → List (List Access) → Option Kind → List ℕ
+stencils_over checked comp lists None = []
+stencils_over checked comp lists (Some over) = flat_map (iteration_stencil checked comp over lists) (range_with_len 0 (length lists))
+
+abbrev pub comprehension_stencils : CheckedProgram → ℕ → List (List Access) → List ℕ
+comprehension_stencils checked comp lists = stencils_over checked comp lists (checked_kind checked comp)
+
+abbrev pub stencils_from : CheckedProgram → ℕ → List (List (List Access)) → List ℕ
+stencils_from checked comp [] = []
+stencils_from checked comp (lists ∷ rest) = comprehension_stencils checked comp lists ++ stencils_from checked (comp + 1) rest
+
+abbrev pub stencils_text : CheckedProgram → List (List (List Access)) → List ℕ
+stencils_text checked stencils = stencils_from checked 0 stencils

@@ -4,9 +4,9 @@ ghost use Rattle.liszt_io.specs.Causes.{HasCause};
 ghost use Rattle.liszt_io.specs.Sinks.{Writes};
 ghost use Rattle.mesh_topology.specs.Elements.{count};
 ghost use Rattle.phase_types.specs.Checked.{checked_mode};
-ghost use Rattle.phase_types.specs.Walk.{OfField};
 ghost use Rattle.liszt_report.specs.Texts.{check_text, comprehension_phases, counts_line, phase_line, phases_text, subject_name as SubjectName, subject_text};
 
+use crate::field_names::field_name;
 use crate::line::append_counted;
 use crate::named::write_named;
 use crate::places::{next_phase, subject_at};
@@ -115,24 +115,6 @@ fn subject_name(c: &Checked, subject: Subject) -> &[u8]
         Subject::Field(field) => field_name(c, field),
         Subject::Scalar(scalar) => match at(c.scalars(), scalar as usize) {
             Some(name) => name.as_slice(),
-            None => b"",
-        },
-    }
-}
-
-/// The name of a field.
-fn field_name(c: &Checked, field: u32) -> &[u8]
-    ensures { result.now ≡ SubjectName c.now (OfField field) }
-{
-    match field {
-        0 => b"PosX",
-        1 => b"PosY",
-        2 => b"PosZ",
-        3 => b"Mark",
-        4 => b"Region",
-        5 => b"",
-        _ => match at(c.fields(), field as usize - 6) {
-            Some(info) => info.name.as_slice(),
             None => b"",
         },
     }

@@ -13,8 +13,6 @@ pub enum Ended {
     Done,
     /// The words name no command.
     Usage,
-    /// The program has a tree, but only simple programs run so far, and it is none.
-    Later,
     /// The program has this fault.
     Program(ProgramFault),
     /// The mesh has this fault.
@@ -83,7 +81,7 @@ impl Ended {
     }
 }
 
-/// The exit status of an ending, from 0 to 11.
+/// The exit status of an ending, from 0 to 10.
 pub fn status_of(ended: Ended) -> u8
     ensures { result ≡ status ended }
 {
@@ -97,7 +95,6 @@ pub fn status_of(ended: Ended) -> u8
         Ended::ReadFault(_) => 8,
         Ended::WriteFault => 9,
         Ended::NoMemory => 10,
-        Ended::Later => 11,
     }
 }
 

@@ -1,7 +1,7 @@
-ghost use Rattle.std.specs.Prelude.{◌≡◌, ◌+◌, ◌<◌, ◌≤◌, ◌^◌, [], ◌++◌, length};
+ghost use Rattle.std.specs.Prelude.{◌≡◌, ◌+◌, ◌≤◌, [], ◌++◌, length};
 ghost use Rattle.std.specs.Fmt.{decimal};
 ghost use Rattle.liszt_report.specs.declared.ended.Ended.TheVariants.{Program as OfProgram, Mesh as OfMesh, Trap as OfTrap};
-ghost use Rattle.liszt_report.specs.Endings.{ending_text, value_line, limit_line, limit_word, comprehension_text, place_text, site_text};
+ghost use Rattle.liszt_report.specs.Endings.{ending_text, limit_line, limit_word, comprehension_text, place_text, site_text};
 
 use crate::ended::Ended;
 use crate::word::{input_word, kind_word, mesh_file_word, mesh_word, program_word, trap_word};
@@ -17,7 +17,6 @@ pub fn set_ending(line: &mut LineBuf, ended: Ended)
         Ended::Usage => line.text(
             b"usage: liszt_run MODE PROGRAM NODE ELE [--workers N] [--ranks N] [--parts NAME] [--turns L] or self N\n",
         ),
-        Ended::Later => line.text(b"later program\n"),
         Ended::Program(fault) => append_program_fault(line, fault),
         Ended::Mesh(fault) => append_mesh_fault(line, fault),
         Ended::Limit(fault) => append_limit(line, fault.what, fault.allowed),
@@ -30,21 +29,6 @@ pub fn set_ending(line: &mut LineBuf, ended: Ended)
         Ended::NoMemory => line.text(b"no memory\n"),
         Ended::Done | Ended::WriteFault => {}
     }
-}
-
-/// Replaces the buffer's bytes with `NAME ID VALUE`.
-pub fn set_value(line: &mut LineBuf, name: &[u8], id: usize, value: i64)
-    requires id { id < 2 ^ 63 }
-    requires name { length name.now ≤ 64 }
-    ensures { line.new ≡ value_line name.now id value }
-{
-    line.clear();
-    line.text(name);
-    line.text(b" ");
-    line.number(id as i64);
-    line.text(b" ");
-    line.number(value);
-    line.text(b"\n");
 }
 
 /// Appends the fault's line to an empty buffer.

@@ -11,3 +11,5 @@ mod runs;
 mod stencil_rows;
 #[cfg(test)]
 mod stencils;
+#[cfg(test)]
+mod word_limit;

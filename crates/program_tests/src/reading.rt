@@ -23,10 +23,10 @@ fn read_program(alloc: Global, text: &[u8]) -> Result<Program, Refused<ProgramFa
     parse(alloc, text, &tokens)
 }
 
-/// The checked program of the first thousand bytes of a text.
+/// The checked program of the first 200,000 bytes of a text.
 pub fn checked_program(alloc: Global, text: &str) -> Result<Checked, Refused<ProgramFault>> {
     let bytes = text.as_bytes();
-    let program = read_program(alloc, &bytes[..bytes.len().min(1000)])?;
+    let program = read_program(alloc, &bytes[..bytes.len().min(200_000)])?;
     check(alloc, &program)
 }
 
@@ -50,20 +50,20 @@ fn ele_text(alloc: Global, cells: &str) -> Result<String, AllocError> {
     format!(in alloc; "{count} 4 0\n{rows}")
 }
 
-/// The mesh of the first hundred thousand bytes of two texts, if it has at most a thousand points and cells.
+/// The mesh of the first hundred thousand bytes of two texts, if it has at most 5,000 points and cells.
 fn read_short_mesh(alloc: Global, node: &[u8], ele: &[u8]) -> Result<Mesh, Refused<MeshFault>> {
     let node = &node[..node.len().min(100_000)];
     let ele = &ele[..ele.len().min(100_000)];
     let raw = read_mesh(alloc, node, ele)?;
-    if raw.points().len() > 1000 || raw.cells().len() > 1000 {
+    if raw.points().len() > 5000 || raw.cells().len() > 5000 {
         return Err(Refused::NoMemory);
     }
     Ok(Mesh::build(alloc, raw)?)
 }
 
-/// The mesh of at most a hundred points, and cells between strokes.
+/// The mesh of at most 5,000 points, and cells between strokes.
 pub fn mesh_of(alloc: Global, points: u32, cells: &str) -> Result<Mesh, Refused<MeshFault>> {
-    let Ok(node) = node_text(alloc, points.min(100)) else {
+    let Ok(node) = node_text(alloc, points.min(5000)) else {
         return Err(Refused::NoMemory);
     };
     let Ok(ele) = ele_text(alloc, cells) else {

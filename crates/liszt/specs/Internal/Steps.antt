@@ -1,5 +1,5 @@
 -- What the steps before the text answer. Private functions' contracts cite it.
-use Rattle.std.specs.Prelude.{◌≡◌, ℕ, ◌<◌, ◌^◌, ◌⊎◌, List, length, Option, Some, None, Result, Ok, Err}
+use Rattle.std.specs.Prelude.{◌≡◌, ℕ, ◌<◌, ◌^◌, ◌⊎◌, List, length, Option, Some, None, Result, Ok, Err, ℤ, take}
 use Rattle.std.specs.Io.KnownBytes.{append_known}
 use Rattle.command_words.specs.declared.command.Mode.{Mode}
 use Rattle.liszt_base.specs.Corners.{IsMesh}
@@ -14,8 +14,8 @@ use Rattle.liszt_io.specs.Shelves.{Files, file, Tally}
 use Rattle.liszt_io.specs.Sinks.{TakesPrefix}
 use Rattle.liszt_io.specs.declared.outside.WriteFault.{WriteFault as Unwritten}
 use Rattle.liszt_report.specs.declared.ended.Ended.{Ended}
-use Rattle.liszt_report.specs.declared.ended.Ended.TheVariants.{Done, Later, ReadFault, WriteFault, NoMemory}
-use Rattle.liszt_report.specs.Endings.{field_text, program_ending}
+use Rattle.liszt_report.specs.declared.ended.Ended.TheVariants.{Done, Limit, Trap, ReadFault, WriteFault, NoMemory}
+use Rattle.liszt_report.specs.Endings.{program_ending}
 use Rattle.liszt_report.specs.Texts.{check_text}
 use Rattle.mesh_topology.specs.Elements.{corner_lists, count}
 use Rattle.liszt_tree.specs.declared.tree.Program.{Program}
@@ -27,7 +27,12 @@ use Rattle.liszt.specs.declared.job.SeqJob.{SeqJob}
 use Rattle.liszt.specs.declared.job.Job.{Job}
 use Rattle.liszt.specs.declared.job.Job.TheVariants as jobs
 use Rattle.liszt.specs.Answers.{IsLost}
-use Rattle.liszt.specs.Expected.{Outcome, done_with, refusal, Within, RunsOn, WorksOn, ResultsIn, IsProgramFault, ProgramResult}
+use Rattle.liszt_base.specs.declared.answers.LimitFault.{LimitFault}
+use Rattle.liszt_report.specs.FieldValues.{FieldValues, value_at}
+use Rattle.liszt_report.specs.Texts.{fields_text}
+use Rattle.seq_meaning.specs.FieldStores.{StoreWords, stored_value}
+use Rattle.seq_meaning.specs.declared.seq_store.SeqStore.{SeqStore}
+use Rattle.liszt.specs.Expected.{Outcome, done_with, outcome_of_run, refusal, Within, RunsOn, WorksOn, ResultsIn, IsProgramFault, ProgramResult}
 
 -- The answer of a step that reads an input, and the shelf's count: it rose for a ReadFault only.
 abbrev pub HasStepCause : {A : Type 0} → ℕ → ℕ → Result A Ended → Type 0
@@ -35,6 +40,7 @@ HasStepCause before now (Ok value) = now ≡ before
 HasStepCause before now (Err (ReadFault x)) = Rose before now
 HasStepCause before now (Err Done) = ⊥
 HasStepCause before now (Err WriteFault) = ⊥
+HasStepCause before now (Err (Trap trap)) = ⊥
 HasStepCause before now (Err ended) = now ≡ before
 
 -- An input of a command: the files of the shelf, which input it is, and its name.
@@ -79,12 +85,21 @@ pub record IsNumberable (lists : MeshLists) : Type 0 where
 abbrev pub check_job_text : CheckJob → List ℕ
 check_job_text job = check_text job.text job.checked (count job.mesh)
 
-abbrev pub seq_job_text : SeqJob → List ℕ
-seq_job_text job = field_text job.name (λ _. job.value) (length job.mesh.cells)
+-- the values of the fields of a run, and what it printed
+abbrev pub run_values : StoreWords → FieldValues
+run_values store field id = stored_value store (record { field = field; id = id })
+
+abbrev pub seq_prints : SeqStore → List ℤ
+seq_prints store = take store.main.printed store.main.prints
+
+abbrev pub seq_outcome : SeqJob → Outcome
+seq_outcome job =
+    outcome_of_run job.end (seq_prints job.store)
+    (fields_text (count job.mesh) (value_at (run_values job.store.fields)) job.checked.fields)
 
 abbrev pub job_outcome : Job → Outcome
 job_outcome (jobs.Check check) = done_with (check_job_text check)
-job_outcome (jobs.Seq seq) = done_with (seq_job_text seq)
+job_outcome (jobs.Seq seq) = seq_outcome seq
 
 -- What a writer of an outcome does: all of its text is taken, and its ending is the result; or a prefix is taken.
 abbrev pub WritesOutcome : Outcome → Option (List ℕ) → Option (List ℕ) → Result Ended Unwritten → Type 0
@@ -92,18 +107,18 @@ WritesOutcome outcome before now (Ok ended) = (ended ≡ outcome.ended) × (now 
 WritesOutcome outcome before now (Err _) = TakesPrefix before now outcome.text
 
 -- The job of `seq` on a typed program, or why there is none.
-abbrev pub MakesSeqJob : Main → MeshLists → Result SeqJob Ended → Type 0
-MakesSeqJob tree mesh (Ok job) = RunsOn tree mesh (done_with (seq_job_text job))
-MakesSeqJob tree mesh (Err ended) = (ended ≡ NoMemory) ⊎ ((ended ≡ Later) × RunsOn tree mesh (refusal Later))
+abbrev pub MakesSeqJob : ℕ → Main → MeshLists → Result SeqJob Ended → Type 0
+MakesSeqJob turns tree mesh (Ok job) = RunsOn turns tree mesh (seq_outcome job)
+MakesSeqJob turns tree mesh (Err ended) =
+    (ended ≡ NoMemory) ⊎ ((fault : LimitFault) × (ended ≡ Limit fault) × RunsOn turns tree mesh (refusal (Limit fault)))
 
--- A typed program on a mesh is a job with the outcome of the mode on them, or it does not run yet. A program with a fault
--- is refused.
+-- A typed program on a mesh is a job with the outcome of the mode on them, or a limit refuses it. A program with a fault is refused.
 abbrev pub MakesJob : Mode → Main → MeshLists → Result Job Ended → Type 0
 MakesJob mode tree mesh (Ok job) = WorksOn mode tree mesh (job_outcome job) × (check_fault tree ≡ None)
 MakesJob mode tree mesh (Err ended) =
     (ended ≡ NoMemory)
     ⊎ (((fault : ProgramFault) × (check_fault tree ≡ Some fault) × (ended ≡ program_ending fault))
-    ⊎ ((ended ≡ Later) × WorksOn mode tree mesh (refusal Later) × (check_fault tree ≡ None)))
+    ⊎ ((fault : LimitFault) × (ended ≡ Limit fault) × WorksOn mode tree mesh (refusal (Limit fault)) × (check_fault tree ≡ None)))
 
 -- The result of a program's text is its tree or its first fault.
 abbrev pub ReadsProgram : List ℕ → Result Program (Refused ProgramFault) → Type 0
