@@ -1,0 +1,3 @@
+-- Definitions on which no public contract rests.
+pub mod Rows
+pub mod Cases
