@@ -15,3 +15,7 @@ a hundred accesses of four spots~4~0 1 2 3~field A : Vertex = 0; for (c <- cells
 scalars and local numbers~4~0 1 2 3~var sum = 0; field A : Cell = 0; for (c <- cells(mesh)) { var n = A(c); n += 1; sum += n; }~7:6.0r
 no iterations~3~~field A : Cell = 0; for (c <- cells(mesh)) { A(c) = 1; }~0:
 the second comprehension~4~0 1 2 3~field A : Cell = 0; for (c <- cells(mesh)) { A(c) = 1; } field B : Face = 0; for (f <- faces(mesh)) { B(f) = A(inside(f)); }~20:6.0r 7.0w/6.0r 7.1w/6.0r 7.2w/6.0r 7.3w";
+
+/// A program of two comprehensions.
+pub const TWO_COMPREHENSIONS: &str =
+    "field A : Cell = 0; for (c <- cells(mesh)) { A(c) = 1; } field B : Face = 0; for (f <- faces(mesh)) { B(f) = A(inside(f)); }";

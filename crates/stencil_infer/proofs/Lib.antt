@@ -11,6 +11,7 @@ pub mod FitExpressionLemmas
 pub mod FitStatementLemmas
 pub mod GatherLemmas
 pub mod InferLemmas
+pub mod ProgramInferenceLemmas
 pub mod SetLemmas
 pub mod SoundnessLemmas
 pub mod StencilLemmas

@@ -2,7 +2,7 @@
 -- al., Supercomputing 2011); what they contain is this project's own.
 use Rattle.std.specs.Prelude.{◌≡◌, ◌<◌, ◌⊎◌, ℕ, ◌+◌, ◌==◌, ◌&&◌, ◌||◌, nat_lt, Bool, if◌then◌else◌, Option, Some, None, List, [], ◌∷◌, ◌++◌, length, slice_get, map, Result, Ok, Err}
 use Rattle.std.specs.List.{AllPairs, Contains, flat_map, sum_by}
-use Rattle.liszt_base.specs.Limits.{visit_limit, entry_limit}
+use Rattle.liszt_base.specs.Limits.{visit_limit, entry_limit, kept_limit}
 use Rattle.liszt_base.specs.MeshLists.{MeshLists}
 use Rattle.liszt_base.specs.declared.accesses.Access.{Access}
 use Rattle.liszt_base.specs.declared.accesses.Mode.{Mode}
@@ -10,13 +10,13 @@ use Rattle.liszt_base.specs.declared.accesses.Mode.TheVariants.{Read}
 use Rattle.liszt_base.specs.declared.accesses.Spot.{Spot}
 use Rattle.liszt_base.specs.declared.answers.LimitFault.{LimitFault}
 use Rattle.liszt_base.specs.declared.answers.LimitWhat.{LimitWhat}
-use Rattle.liszt_base.specs.declared.answers.LimitWhat.TheVariants.{Visits, Entries}
+use Rattle.liszt_base.specs.declared.answers.LimitWhat.TheVariants.{Visits, Entries, Kept}
 use Rattle.liszt_base.specs.declared.elements.Elem.{Elem}
 use Rattle.liszt_tree.specs.Tree.{Expression, Field, Call, Towards, Neg, Not, Chain, Compare, Links, no_links, link}
-use Rattle.liszt_tree.specs.Tree.{Statement, Var, Val, Assign, If, While, For, Body, no_statement, statement}
+use Rattle.liszt_tree.specs.Tree.{Statement, Var, Val, Assign, If, While, For, Body, no_statement, statement, Main}
 use Rattle.mesh_topology.specs.Elements.{count, numbers}
 use Rattle.topo_operators.specs.Operators.{members, unflipped}
-use Rattle.phase_types.specs.Environments.{Environment, Binding, FieldName, binding_of, Comprehension}
+use Rattle.phase_types.specs.Environments.{Environment, Binding, FieldName, binding_of, Comprehension, comprehensions_of}
 use Rattle.phase_types.specs.Walk.{mode_by}
 use Rattle.kernel_eval.specs.Expressions.{ElementBindings, element_value, elements_after}
 use Rattle.kernel_eval.specs.Meaning.{spot_of}
@@ -178,3 +178,27 @@ inference mesh c k =
 pub record AreStencils (mesh : MeshLists) (c : Comprehension) (lists : List (List Access)) : Type 0 where
   pub one_each : length lists ≡ count mesh c.over
   pub each : (id : ℕ) (stencil : List Access) → slice_get lists id ≡ Some stencil → IsStencil mesh c id stencil
+
+-- the second step, if the first passes no limit
+infixl 10 ◌>>=◌
+abbrev pub ◌>>=◌ : {A B : Type 0} → Result A LimitFault → (A → Result B LimitFault) → Result B LimitFault
+Ok value >>= next = next value
+Err fault >>= next = Err fault
+
+-- the number of accesses that are kept, with those of comprehension `k`
+abbrev pub kept_after : ℕ → ℕ → StencilLists → Result ℕ LimitFault
+kept_after k kept s = if nat_lt kept_limit (kept + entries s.lists) then Err (past_limit (Kept k) kept_limit) else Ok (kept + entries s.lists)
+
+-- the stencils of the comprehensions from the `k`th on, if those of the earlier ones keep `kept` accesses
+abbrev pub inferences_from : MeshLists → ℕ → ℕ → List Comprehension → Result (List StencilLists) LimitFault
+inferences_from mesh k kept [] = Ok []
+inferences_from mesh k kept (c ∷ rest) = do
+  s ← inference mesh c k
+  kept_now ← kept_after k kept s
+  later ← inferences_from mesh (k + 1) kept_now rest
+  Ok (s ∷ later)
+
+-- THE INFERENCE OF A PROGRAM gives the stencils of its comprehensions, in the order of the text; or the first limit that is passed: one of
+-- a comprehension, and after these that of the accesses that are kept in all stencils up to it.
+abbrev pub program_inference : MeshLists → Main → Result (List StencilLists) LimitFault
+program_inference mesh program = inferences_from mesh 0 0 (comprehensions_of program)

@@ -109,7 +109,7 @@ fn gather_iterations(
 }
 
 /// One more than a limit.
-fn past_limit(what: LimitWhat, limit: u32) -> Refused<LimitFault>
+pub fn past_limit(what: LimitWhat, limit: u32) -> Refused<LimitFault>
     ensures { result ≡ Fault (PastLimit what limit) }
 {
     let allowed = limit as u64;

@@ -9,9 +9,11 @@ mod elements;
 mod gather;
 mod inference;
 pub mod laws;
+mod program_inference;
 mod stencils;
 mod visits;
 mod walks;
 
 pub use inference::infer;
+pub use program_inference::infer_all;
 pub use stencils::{AccessLists, Stencils};
