@@ -7,7 +7,8 @@ use Rattle.std.proofs.lemmas.List.{map-set, take_more_set, append_assoc, append-
 use Rattle.command_words.specs.declared.options.OptionName.{OptionName}
 use Rattle.command_words.specs.declared.options.OptionName.TheVariants.{Workers, Ranks, Parts, Turns}
 use Rattle.command_words.specs.declared.command.Mode.{Mode}
-use Rattle.command_words.specs.Commands.{GivenOption, Invocation, SortedWords, sorted_words_with, command_by, command_in, mode_in, check_in, seq_in, is_name, with_plain}
+use Rattle.command_words.specs.declared.command.Mode.TheVariants.{Check, Stencil}
+use Rattle.command_words.specs.Commands.{GivenOption, Invocation, SortedWords, sorted_words_with, command_by, command_in, mode_in, seq_in, without_options, is_name, with_plain}
 use Rattle.command_words.specs.Internal.CommandReading.{prepend_words, command_after, turns_options}
 
 pub word_at : {A : Type 0} (f : A → List ℕ) (items : List A) (i : ℕ) (d : A) → i < length items
@@ -84,9 +85,9 @@ four_words None options (a ∷ b ∷ e ∷ f ∷ g ∷ plain) count d none four 
 abbrev pub AreTurns : List GivenOption → Type 0
 AreTurns options = (turns : Option (List ℕ)) × (options ≡ turns_options turns)
 
-check_turns : (options : List GivenOption) (mode : Mode) → check_in options ≡ Some mode → AreTurns options
-check_turns [] mode e = (None, refl)
-check_turns (g ∷ options) mode e = cc
+no_turns : (of : Mode) (options : List GivenOption) (mode : Mode) → without_options of options ≡ Some mode → AreTurns options
+no_turns of [] mode e = (None, refl)
+no_turns of (g ∷ options) mode e = cc
 
 seq_turns : (options : List GivenOption) (mode : Mode) → seq_in options ≡ Some mode → AreTurns options
 seq_turns [] mode e = (None, refl)
@@ -97,11 +98,13 @@ seq_turns ((Ranks, value) ∷ options) mode e = cc
 seq_turns ((Parts, value) ∷ options) mode e = cc
 
 mode_turns : (word : List ℕ) (options : List GivenOption) (mode : Mode) → mode_in word options ≡ Some mode → AreTurns options
-mode_turns word options mode e = go (bytes_eq word (codes "check")) (bytes_eq word (codes "seq")) e where
-  go : (check seq : Bool) → (if check then check_in options else if seq then seq_in options else None) ≡ Some mode → AreTurns options
-  go true seq e = check_turns options mode e
-  go false true e = seq_turns options mode e
-  go false false e = cc
+mode_turns word options mode e = go (bytes_eq word (codes "check")) (bytes_eq word (codes "stencil")) (bytes_eq word (codes "seq")) e where
+  go : (check stencil seq : Bool)
+      → (if check then without_options Check options else if stencil then without_options Stencil options else if seq then seq_in options else None) ≡ Some mode → AreTurns options
+  go true stencil seq e = no_turns Check options mode e
+  go false true seq e = no_turns Stencil options mode e
+  go false false true e = seq_turns options mode e
+  go false false false e = cc
 
 some_mode : (program node ele : List ℕ) (mode : Option Mode) (command : Invocation) → with_mode program node ele mode ≡ Some command
     → (m : Mode) × (mode ≡ Some m)

@@ -9,7 +9,7 @@ use Rattle.std.specs.Str.Parse.{digits_value}
 use Rattle.liszt_base.specs.Limits.{turn_limit, default_turns}
 use Rattle.command_words.specs.declared.command.Command.{Command}
 use Rattle.command_words.specs.declared.command.Mode.{Mode}
-use Rattle.command_words.specs.declared.command.Mode.TheVariants.{Check, Seq}
+use Rattle.command_words.specs.declared.command.Mode.TheVariants.{Check, Stencil, Seq}
 use Rattle.command_words.specs.declared.options.OptionName.{OptionName}
 use Rattle.command_words.specs.declared.options.OptionName.TheVariants.{Workers, Ranks}
 use Rattle.command_words.specs.declared.options.OptionName.TheVariants.{Parts, Turns}
@@ -96,8 +96,8 @@ number_in least most word =
     then Some (digits_value 10 word)
     else None
 
--- COMMANDS. Each has a mode and the names of three files: `check PROGRAM NODE ELE`, without options,
--- and `seq PROGRAM NODE ELE`, with the option `--turns` at most once.
+-- COMMANDS. Each has a mode and the names of three files: `check PROGRAM NODE ELE` and `stencil PROGRAM NODE ELE`,
+-- without options, and `seq PROGRAM NODE ELE`, with the option `--turns` at most once.
 pub record Invocation : Type 0 where
   pub mode : Mode
   pub program : List ℕ
@@ -114,9 +114,9 @@ turns_in [] = Some default_turns
 turns_in ((Turns, value) ∷ []) = number_in 1 turn_limit value
 turns_in options = None
 
-abbrev pub check_in : List GivenOption → Option Mode
-check_in [] = Some Check
-check_in options = None
+abbrev pub without_options : Mode → List GivenOption → Option Mode
+without_options mode [] = Some mode
+without_options mode options = None
 
 abbrev pub seq_in : List GivenOption → Option Mode
 seq_in options = option_map (λ turns. Seq turns) (turns_in options)
@@ -124,7 +124,8 @@ seq_in options = option_map (λ turns. Seq turns) (turns_in options)
 -- The mode that the first plain word names, with the options of that mode.
 abbrev pub mode_in : List ℕ → List GivenOption → Option Mode
 mode_in word options =
-    if bytes_eq word (codes "check") then check_in options
+    if bytes_eq word (codes "check") then without_options Check options
+    else if bytes_eq word (codes "stencil") then without_options Stencil options
     else if bytes_eq word (codes "seq") then seq_in options
     else None
 

@@ -3,7 +3,7 @@
 
 ghost use Rattle.std.specs.Prelude.{◌≡◌, [], ◌∷◌, Some, None, codes};
 ghost use Rattle.liszt_base.specs.Limits.{default_turns};
-ghost use Rattle.command_words.specs.declared.command.Mode.TheVariants.{Check, Seq};
+ghost use Rattle.command_words.specs.declared.command.Mode.TheVariants.{Check, Stencil, Seq};
 ghost use Rattle.command_words.specs.Commands.{command_of};
 
 /// Options are allowed anywhere, with the value as the next word or after `=`.
@@ -17,6 +17,8 @@ fn options()
         ∷ []) ≡ Some (record { mode = Seq 7; program = codes "p"; node = codes "n"; ele = codes "e" }) }
     ensures check { command_of (codes "check" ∷ codes "p" ∷ codes "n" ∷ codes "e" ∷ [])
         ≡ Some (record { mode = Check; program = codes "p"; node = codes "n"; ele = codes "e" }) }
+    ensures stencil { command_of (codes "stencil" ∷ codes "p" ∷ codes "n" ∷ codes "e" ∷ [])
+        ≡ Some (record { mode = Stencil; program = codes "p"; node = codes "n"; ele = codes "e" }) }
 {}
 
 /// Words that are no command: an option without a value, a repeated option, an option of no command, a number out of range.
@@ -28,6 +30,8 @@ fn no_commands()
         ∷ codes "n" ∷ codes "e" ∷ []) ≡ None }
     ensures option_of_none { command_of (codes "seq" ∷ codes "p" ∷ codes "n" ∷ codes "e" ∷ codes "--workers"
         ∷ codes "4" ∷ []) ≡ None }
+    ensures option_of_stencil { command_of (codes "stencil" ∷ codes "p" ∷ codes "n" ∷ codes "e" ∷ codes "--turns"
+        ∷ codes "5" ∷ []) ≡ None }
     ensures option_of_check { command_of (codes "check" ∷ codes "p" ∷ codes "n" ∷ codes "e" ∷ codes "--turns"
         ∷ codes "5" ∷ []) ≡ None }
     ensures zero { command_of (codes "seq" ∷ codes "p" ∷ codes "n" ∷ codes "e" ∷ codes "--turns"

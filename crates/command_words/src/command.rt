@@ -1,7 +1,7 @@
 ghost use Rattle.std.specs.Prelude.{◌≡◌, ◌∷◌, ◌++◌, [], ℕ, List, None, Ok, IfOk};
 ghost use Rattle.std.specs.Option.{option_map, option_and_then};
 ghost use Rattle.clap.specs.Words.{found_of};
-ghost use Rattle.command_words.specs.Commands.{check_in, command_of, invocation, mode_in, turns_in};
+ghost use Rattle.command_words.specs.Commands.{command_of, invocation, mode_in, turns_in, without_options};
 ghost use Rattle.command_words.specs.Internal.CommandReading.{command_after, options_so_far, plain_so_far, remaining_command};
 ghost use Rattle.command_words.specs.Internal.Matches.{matched_command};
 
@@ -16,6 +16,8 @@ use std::alloc::Global;
 pub enum Mode {
     /// Checks the program, and counts the elements of the mesh.
     Check,
+    /// Infers the stencils of the program's comprehensions on the mesh.
+    Stencil,
     /// Runs the program on the mesh, with the greatest number of turns of its loops.
     Seq { turns: u64 },
 }
@@ -185,7 +187,9 @@ impl<'a> WordsRead<'a> {
         ensures { result ≡ mode_in word.now (options_so_far self.entry) }
     {
         if word == "check" {
-            self.check()
+            self.without_options(Mode::Check)
+        } else if word == "stencil" {
+            self.without_options(Mode::Stencil)
         } else if word == "seq" {
             let turns = self.turns()?;
             Some(Mode::Seq { turns })
@@ -194,13 +198,13 @@ impl<'a> WordsRead<'a> {
         }
     }
 
-    /// The mode of `check`, which has no option.
-    fn check(self) -> Option<Mode>
-        ensures { result ≡ check_in (options_so_far self.entry) }
+    /// A mode that has no option.
+    fn without_options(self, mode: Mode) -> Option<Mode>
+        ensures { result ≡ without_options mode (options_so_far self.entry) }
     {
         match self.turns {
             Some(_) => None,
-            None => Some(Mode::Check),
+            None => Some(mode),
         }
     }
 

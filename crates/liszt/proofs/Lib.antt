@@ -1,3 +1,4 @@
+pub mod InferenceLemmas
 pub mod MeshLemmas
 pub mod OutcomeLemmas
 pub mod RunLemmas

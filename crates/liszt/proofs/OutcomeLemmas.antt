@@ -35,7 +35,7 @@ use Rattle.tet_reader.proofs.EleReading.{mesh_spelled_over, mesh_passes_over, on
 use Rattle.liszt_report.specs.declared.ended.Ended.{Ended}
 use Rattle.liszt_report.specs.declared.ended.Ended.TheVariants.{Done, Usage, Program as OfProgram, Mesh, Limit, Trap, ReadFault, WriteFault, NoMemory}
 use Rattle.command_words.specs.declared.command.Mode.{Mode}
-use Rattle.command_words.specs.declared.command.Mode.TheVariants.{Check, Seq}
+use Rattle.command_words.specs.declared.command.Mode.TheVariants.{Check, Stencil, Seq}
 use Rattle.command_words.specs.Commands.{command_of, Invocation}
 use Rattle.liszt.specs.Expected.{RunsOn, Outcome, refusal, Within, Follows, IsProgramFault, ProgramResult, NodeResult, EleResult, TakesIn, Finishes, TakesCells, TakesPoints, Performs, ChecksOn, WorksOn, done_with, ResultsIn, Expected}
 use Rattle.std.specs.Prelude.{is_some}
@@ -48,7 +48,8 @@ use Rattle.seq_meaning.specs.FieldStores.{StoreWords, prepared_store}
 use Rattle.seq_meaning.specs.Runs.{run_end}
 use Rattle.seq_meaning.proofs.TypedRunLemmas.{run_ends}
 use Rattle.liszt.proofs.MeshLemmas.{is_mesh}
-use Rattle.liszt.specs.Expected.{run_outcome}
+use Rattle.liszt.specs.Expected.{InfersOn, run_outcome, stencils_outcome}
+use Rattle.stencil_infer.specs.Stencils.{StencilLists, program_inference}
 use Rattle.liszt.specs.Answers.{outside, IsLost, EndsWith, Answers, HasCauses, IsOutcome}
 
 -- One outcome
@@ -152,8 +153,18 @@ one_check : (tree : Main) (mesh : MeshLists) → IsOne (ChecksOn tree mesh)
 one_check tree mesh a b h i =
     h.2 ∙ (ap (λ c. done_with (check_text (canonical tree) c (count mesh))) (same_checked tree h.0 i.0 h.1 i.1) ∙ sym i.2)
 
+one_inference : (tree : Main) (mesh : MeshLists) → IsOne (InfersOn tree mesh)
+one_inference tree mesh a b h i = go (program_inference mesh tree) h i where
+  go : (inferred : Result (List StencilLists) LimitFault)
+      → MatchResult inferred (λ stencils. (checked : CheckedProgram) × (checked_program tree ≡ Ok checked) × (a ≡ stencils_outcome checked stencils)) (λ fault. a ≡ refusal (Limit fault))
+      → MatchResult inferred (λ stencils. (checked : CheckedProgram) × (checked_program tree ≡ Ok checked) × (b ≡ stencils_outcome checked stencils)) (λ fault. b ≡ refusal (Limit fault))
+      → a ≡ b
+  go (Ok stencils) h i = h.2 ∙ (ap (λ c. stencils_outcome c stencils) (same_checked tree h.0 i.0 h.1 i.1) ∙ sym i.2)
+  go (Err fault) h i = h ∙ sym i
+
 one_work : (mode : Mode) (tree : Main) (mesh : MeshLists) → IsOne (WorksOn mode tree mesh)
 one_work Check tree mesh = one_check tree mesh
+one_work Stencil tree mesh = one_inference tree mesh
 one_work (Seq turns) tree mesh = one_run turns tree mesh
 
 one_finish : (mode : Mode) (tree : Main) (mesh : MeshLists) → IsOne (Finishes mode tree mesh)
@@ -285,8 +296,17 @@ some_check tree mesh none =
     let c = typed_is_checked tree (is_typed tree none) in
     (done_with (check_text (canonical tree) c.0 (count mesh)), (c.0, c.1, refl))
 
+some_inference : (tree : Main) (mesh : MeshLists) → check_fault tree ≡ None → (outcome : Outcome) × InfersOn tree mesh outcome
+some_inference tree mesh none = go (program_inference mesh tree) where
+  go : (inferred : Result (List StencilLists) LimitFault) → (outcome : Outcome) × MatchResult inferred
+      (λ stencils. (checked : CheckedProgram) × (checked_program tree ≡ Ok checked) × (outcome ≡ stencils_outcome checked stencils))
+      (λ fault. outcome ≡ refusal (Limit fault))
+  go (Ok stencils) = let c = typed_is_checked tree (is_typed tree none) in (stencils_outcome c.0 stencils, (c.0, c.1, refl))
+  go (Err fault) = (refusal (Limit fault), refl)
+
 some_work : (mode : Mode) (tree : Main) (mesh : MeshLists) → IsMesh (length mesh.points) (corner_lists mesh) → check_fault tree ≡ None → (outcome : Outcome) × WorksOn mode tree mesh outcome
 some_work Check tree mesh is_mesh none = some_check tree mesh none
+some_work Stencil tree mesh is_mesh none = some_inference tree mesh none
 some_work (Seq turns) tree mesh is_mesh none = some_run turns tree mesh is_mesh none
 
 some_finish : (mode : Mode) (tree : Main) (mesh : MeshLists) → IsMesh (length mesh.points) (corner_lists mesh) → (outcome : Outcome) × Finishes mode tree mesh outcome

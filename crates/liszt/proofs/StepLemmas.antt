@@ -17,9 +17,8 @@ use Rattle.liszt_report.specs.declared.ended.Ended.TheVariants.{Done, Usage, Pro
 use Rattle.liszt.specs.declared.job.Job.{Job}
 use Rattle.liszt.specs.declared.job.Job.TheVariants as jobs
 use Rattle.liszt.specs.declared.job.CheckJob.{CheckJob}
-use Rattle.liszt.specs.declared.job.SeqJob.{SeqJob}
 use Rattle.command_words.specs.declared.command.Mode.{Mode}
-use Rattle.command_words.specs.declared.command.Mode.TheVariants.{Check, Seq}
+use Rattle.command_words.specs.declared.command.Mode.TheVariants.{Check}
 use Rattle.liszt_report.specs.Texts.{check_text}
 use Rattle.liszt_tree.specs.Canonical.{canonical}
 use Rattle.mesh_topology.specs.Elements.{count}
@@ -34,7 +33,7 @@ use Rattle.liszt_base.specs.declared.answers.RunEnd.TheVariants.{Done as IsDone,
 use Rattle.liszt_base.specs.declared.answers.Trap.{Trap as RunTrap}
 use Rattle.liszt.specs.Expected.{outcome_of_run}
 use Rattle.liszt.specs.Answers.{outside, IsRunOutcome, IsLost, Answers, Wrote, HasCauses, HasShelfCause}
-use Rattle.liszt.specs.Internal.Steps.{HasStepCause, StepGives, input_at, MakesJob, MakesSeqJob, Prepares, ReadsProgram, WritesOutcome, check_job_text, job_outcome}
+use Rattle.liszt.specs.Internal.Steps.{HasStepCause, StepGives, input_at, MakesJob, MakesJobOf, Prepares, ReadsProgram, WritesOutcome, check_job_text, job_outcome}
 use Rattle.liszt_lexer.specs.Lexed.{LexedText, lexed_text}
 use Rattle.liszt_lexer.proofs.LexedTextLemmas.{lexed_parts}
 use Rattle.liszt_parser.specs.Grammar.{lexeme, lexemes}
@@ -231,16 +230,16 @@ pub check_made : (mode : Mode) (tree : Main) (mesh : MeshLists) (checked : Check
 check_made mode tree mesh checked job is none typed text =
     subst (λ (m : Mode). MakesJob m tree mesh (Ok (jobs.Check job))) (sym is) ((checked, typed, ap done_with text), none)
 
-pub seq_made : (mode : Mode) (turns : ℕ) (tree : Main) (mesh : MeshLists) (job : SeqJob) → mode ≡ Seq turns → check_fault tree ≡ None
-    → MakesSeqJob turns tree mesh (Ok job) → MakesJob mode tree mesh (Ok (jobs.Seq job))
-seq_made mode turns tree mesh job is none runs = subst (λ (m : Mode). MakesJob m tree mesh (Ok (jobs.Seq job))) (sym is) (runs, none)
+pub mode_made : (mode known : Mode) (tree : Main) (mesh : MeshLists) (job : Job) → mode ≡ known → check_fault tree ≡ None
+    → WorksOn known tree mesh (job_outcome job) → MakesJob mode tree mesh (Ok job)
+mode_made mode known tree mesh job is none works = subst (λ (m : Mode). MakesJob m tree mesh (Ok job)) (sym is) (works, none)
 
-pub seq_refused : (mode : Mode) (turns : ℕ) (tree : Main) (mesh : MeshLists) (made : Result Job Ended) (ended : Ended) → mode ≡ Seq turns → check_fault tree ≡ None
-    → MakesSeqJob turns tree mesh (Err ended) → made ≡ Err ended → MakesJob mode tree mesh made
-seq_refused mode turns tree mesh made ended is none refused same =
-    subst (λ (m : Mode). MakesJob m tree mesh made) (sym is) (subst (MakesJob (Seq turns) tree mesh) (sym same) (go refused))
+pub mode_refused : {J : Type 0} (outcome_of : J → Outcome) (mode known : Mode) (tree : Main) (mesh : MeshLists) (made : Result Job Ended) (ended : Ended) → mode ≡ known → check_fault tree ≡ None
+    → MakesJobOf outcome_of (WorksOn known tree mesh) (Err ended) → made ≡ Err ended → MakesJob mode tree mesh made
+mode_refused outcome_of mode known tree mesh made ended is none refused same =
+    subst (λ (m : Mode). MakesJob m tree mesh made) (sym is) (subst (MakesJob known tree mesh) (sym same) (go refused))
   where
-    go : MakesSeqJob turns tree mesh (Err ended) → MakesJob (Seq turns) tree mesh (Err ended)
+    go : MakesJobOf outcome_of (WorksOn known tree mesh) (Err ended) → MakesJob known tree mesh (Err ended)
     go (inl memory) = inl memory
     go (inr limit) = inr (inr (limit.0, limit.1, limit.2, none))
 
@@ -324,6 +323,7 @@ end_of_run (IsTrap trap) prints fields = inr (trap, refl)
 
 end_of_job : (job : Job) → IsEndOfRun (job_outcome job).ended
 end_of_job (jobs.Check check) = inl refl
+end_of_job (jobs.Stencil stencil) = inl refl
 end_of_job (jobs.Seq seq) = end_of_run seq.end _ _
 
 -- the answer of the outcome of a run

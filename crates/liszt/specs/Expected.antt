@@ -1,5 +1,5 @@
 -- The ending and the text in which a list of words and files result. Memory has no part in it. This project's own.
-use Rattle.std.specs.Prelude.{◌≡◌, ℕ, ◌<◌, ◌≤◌, ◌⊎◌, List, length, MatchOption, Some, None, Result, Ok, Err, ◌++◌, MatchResult, ℤ, pos, unwrap_or}
+use Rattle.std.specs.Prelude.{◌≡◌, ℕ, ◌<◌, ◌≤◌, ◌⊎◌, List, length, MatchOption, Some, None, Result, Ok, Err, ◌++◌, map, MatchResult, ℤ, pos, unwrap_or}
 use Rattle.liszt_base.specs.declared.answers.Input.{Input}
 use Rattle.liszt_base.specs.declared.answers.Input.TheVariants.{Program, Node, Ele}
 use Rattle.liszt_base.specs.declared.answers.MeshFault.{MeshFault}
@@ -23,10 +23,10 @@ use Rattle.tet_reader.specs.Faults.{node_fault, cells_fault}
 use Rattle.liszt_report.specs.declared.ended.Ended.{Ended}
 use Rattle.liszt_report.specs.declared.ended.Ended.TheVariants.{Done, Usage, Limit, Trap, ReadFault}
 use Rattle.command_words.specs.declared.command.Mode.{Mode}
-use Rattle.command_words.specs.declared.command.Mode.TheVariants.{Check, Seq}
+use Rattle.command_words.specs.declared.command.Mode.TheVariants.{Check, Stencil, Seq}
 use Rattle.command_words.specs.Commands.{command_of, Invocation}
 use Rattle.liszt_report.specs.Endings.{ending_text, too_long, program_ending, mesh_ending}
-use Rattle.liszt_report.specs.Texts.{check_text, fields_text, prints_text}
+use Rattle.liszt_report.specs.Texts.{check_text, fields_text, prints_text, stencils_text}
 use Rattle.phase_types.specs.Environments.{fields_of}
 use Rattle.kernel_eval.specs.States.{value_in}
 use Rattle.seq_meaning.specs.FieldStores.{prepared_store}
@@ -34,6 +34,7 @@ use Rattle.seq_meaning.specs.Runs.{prints_of, run, run_end}
 use Rattle.liszt_base.specs.declared.answers.RunEnd.{RunEnd}
 use Rattle.liszt_base.specs.declared.answers.RunEnd.TheVariants.{Done as IsDone, Trap as IsTrap}
 use Rattle.liszt_base.specs.Limits.{file_limit}
+use Rattle.stencil_infer.specs.Stencils.{StencilLists, program_inference}
 
 -- An ending and its text.
 pub record Outcome : Type 0 where
@@ -106,6 +107,16 @@ ChecksOn tree mesh outcome =
     (checked : CheckedProgram) × (checked_program tree ≡ Ok checked)
     × (outcome ≡ done_with (check_text (canonical tree) checked (count mesh)))
 
+-- `stencil`: the stencils of a typed program's comprehensions, or the first limit that their inference passes.
+abbrev pub stencils_outcome : CheckedProgram → List StencilLists → Outcome
+stencils_outcome checked stencils = done_with (stencils_text checked (map (λ s. s.lists) stencils))
+
+abbrev pub InfersOn : Main → MeshLists → Outcome → Type 0
+InfersOn tree mesh outcome =
+    MatchResult (program_inference mesh tree)
+    (λ stencils. (checked : CheckedProgram) × (checked_program tree ≡ Ok checked) × (outcome ≡ stencils_outcome checked stencils))
+    (λ fault. outcome ≡ refusal (Limit fault))
+
 -- THE OUTCOME OF A RUN, by its end: its prints, and then the text of the fields, or the line of the trap.
 abbrev pub outcome_of_run : RunEnd → List ℤ → List ℕ → Outcome
 outcome_of_run IsDone prints fields = done_with (prints_text prints ++ fields)
@@ -131,6 +142,7 @@ RunsOn turns tree mesh outcome =
 -- The outcome of a mode on a typed program and a mesh.
 abbrev pub WorksOn : Mode → Main → MeshLists → Outcome → Type 0
 WorksOn Check tree mesh outcome = ChecksOn tree mesh outcome
+WorksOn Stencil tree mesh outcome = InfersOn tree mesh outcome
 WorksOn (Seq turns) tree mesh outcome = RunsOn turns tree mesh outcome
 
 -- A program with a fault of the checker is refused, whatever the mode and the mesh.

@@ -4,13 +4,13 @@ ghost use Rattle.liszt_io.specs.Sinks.{Writes};
 ghost use Rattle.liszt_report.specs.declared.ended.Ended.TheVariants.{WriteFault as NotWritten};
 ghost use Rattle.liszt_report.specs.Endings.{ending_text};
 ghost use Rattle.liszt.specs.Answers.{Refuses};
-ghost use Rattle.liszt.specs.Internal.Steps.{WritesOutcome, job_outcome, seq_outcome};
+ghost use Rattle.liszt.specs.Internal.Steps.{WritesOutcome, job_outcome, seq_outcome, stencil_outcome};
 
-use crate::job::{Job, SeqJob};
+use crate::job::{Job, SeqJob, StencilJob};
 use crate::store_values::StoreValues;
 use liszt_base::RunEnd;
 use liszt_io::{Sink, WriteFault};
-use liszt_report::{Ended, write_check, write_ending, write_fields, write_prints};
+use liszt_report::{Ended, write_check, write_ending, write_fields, write_prints, write_stencils};
 
 /// Writes the line of a refusal and flushes.
 pub fn write_refusal<S: Sink>(out: &mut S, ended: &Ended) -> Result<(), WriteFault>
@@ -41,6 +41,7 @@ fn write_job_text<S: Sink>(out: &mut S, job: &Job) -> Result<(), WriteFault>
 {
     match job {
         Job::Check(job) => write_check(out, job.text.as_slice(), &job.checked, &job.mesh),
+        Job::Stencil(job) => write_all_stencils(out, job),
         Job::Seq(job) => write_run(out, job),
     }
 }
@@ -50,12 +51,25 @@ fn ending_of_job(job: &Job) -> Ended
     ensures { result ≡ (job_outcome job.now).ended }
 {
     match job {
-        Job::Check(_) => Ended::Done,
+        Job::Check(_) | Job::Stencil(_) => Ended::Done,
         Job::Seq(job) => match job.end {
             RunEnd::Done => Ended::Done,
             RunEnd::Trap(trap) => Ended::Trap(trap),
         },
     }
+}
+
+/// Writes the stencils of each comprehension.
+fn write_all_stencils<S: Sink>(out: &mut S, job: &StencilJob) -> Result<(), WriteFault>
+    ensures cause { HasCause (S.faults out.old) (S.faults out.new) result }
+    ensures writes { Writes (stencil_outcome job.now).text (S.output out.old) (S.output out.new)
+        result }
+{
+    let stencils = job.stencils.as_slice();
+    for k in 0..job.checked.comps() {
+        write_stencils(out, &job.checked, k, stencils[k as usize].lists())?;
+    }
+    Ok(())
 }
 
 /// Writes what a run printed, and then the values of the fields of the outermost scope, or the line of its trap.

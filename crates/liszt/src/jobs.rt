@@ -6,9 +6,10 @@ ghost use Rattle.liszt_tree.specs.Canonical.{canonical};
 ghost use Rattle.liszt_tree.specs.Tree.{program_tree};
 ghost use Rattle.mesh_topology.specs.Elements.{count};
 ghost use Rattle.phase_types.specs.Checked.{checked_program, item_count};
-ghost use Rattle.liszt.specs.Internal.Steps.{IsNumberable, MakesJob, MakesSeqJob, check_job_text};
+ghost use Rattle.liszt.specs.Expected.{InfersOn, RunsOn};
+ghost use Rattle.liszt.specs.Internal.Steps.{IsNumberable, MakesJob, MakesJobOf, check_job_text, seq_outcome, stencil_outcome};
 
-use crate::job::{CheckJob, Job, SeqJob};
+use crate::job::{CheckJob, Job, SeqJob, StencilJob};
 use command_words::Mode;
 use liszt_base::{NoMemory, RawMesh, Refused};
 use liszt_report::Ended;
@@ -17,6 +18,7 @@ use mesh_topology::Mesh;
 use phase_types::{Checked, check};
 use seq_meaning::{SeqStore, run_seq};
 use std::alloc::Global;
+use stencil_infer::infer_all;
 
 /// The job of a mode on a typed program and a mesh. An `Err` is the ending for the first fault of a program that is not typed, or of
 /// the mode.
@@ -28,6 +30,7 @@ pub fn make_job(alloc: Global, mode: Mode, program: &Program, mesh: RawMesh) -> 
     let checked = check(alloc, program)?;
     match mode {
         Mode::Check => Ok(Job::Check(check_job(alloc, program, checked, mesh)?)),
+        Mode::Stencil => Ok(Job::Stencil(stencil_job(alloc, program, checked, mesh)?)),
         Mode::Seq { turns } => Ok(Job::Seq(seq_job(alloc, program, checked, mesh, turns)?)),
     }
 }
@@ -52,6 +55,25 @@ fn check_job(
     })
 }
 
+/// The job of `stencil`. An `Err` is out of memory, or a limit that is passed.
+fn stencil_job(
+    alloc: Global,
+    _program: &Program,
+    checked: Checked,
+    mesh: RawMesh,
+) -> Result<StencilJob, Ended>
+    requires checked { checked_program (program_tree _program.now) ≡ Ok checked }
+    requires mesh { IsNumberable mesh }
+    ensures { MakesJobOf stencil_outcome (InfersOn (program_tree _program.now) mesh) result }
+{
+    let mesh = Mesh::build(alloc, mesh)?;
+    match infer_all(alloc, &checked, &mesh) {
+        Ok(stencils) => Ok(StencilJob { checked, stencils }),
+        Err(Refused::Fault(fault)) => Err(Ended::Limit(fault)),
+        Err(Refused::NoMemory) => Err(Ended::NoMemory),
+    }
+}
+
 /// The job of `seq`: the program is run. An `Err` is out of memory, or the limit of words.
 fn seq_job(
     alloc: Global,
@@ -62,7 +84,7 @@ fn seq_job(
 ) -> Result<SeqJob, Ended>
     requires checked { checked_program (program_tree _program.now) ≡ Ok checked }
     requires mesh { IsNumberable mesh }
-    ensures { MakesSeqJob turns (program_tree _program.now) mesh result }
+    ensures { MakesJobOf seq_outcome (RunsOn turns (program_tree _program.now) mesh) result }
 {
     let mesh = Mesh::build(alloc, mesh)?;
     let mut store = match SeqStore::prepare(alloc, &checked, &mesh) {

@@ -24,6 +24,7 @@ use Rattle.phase_types.specs.Walk.{check_fault}
 use Rattle.text_scan.specs.Rows.{TextRows, text_rows}
 use Rattle.liszt.specs.declared.job.CheckJob.{CheckJob}
 use Rattle.liszt.specs.declared.job.SeqJob.{SeqJob}
+use Rattle.liszt.specs.declared.job.StencilJob.{StencilJob}
 use Rattle.liszt.specs.declared.job.Job.{Job}
 use Rattle.liszt.specs.declared.job.Job.TheVariants as jobs
 use Rattle.liszt.specs.Answers.{IsLost}
@@ -32,7 +33,7 @@ use Rattle.liszt_report.specs.FieldValues.{FieldValues, value_at}
 use Rattle.liszt_report.specs.Texts.{fields_text}
 use Rattle.seq_meaning.specs.FieldStores.{StoreWords, stored_value}
 use Rattle.seq_meaning.specs.declared.seq_store.SeqStore.{SeqStore}
-use Rattle.liszt.specs.Expected.{Outcome, done_with, outcome_of_run, refusal, Within, RunsOn, WorksOn, ResultsIn, IsProgramFault, ProgramResult}
+use Rattle.liszt.specs.Expected.{Outcome, done_with, outcome_of_run, refusal, stencils_outcome, Within, WorksOn, ResultsIn, IsProgramFault, ProgramResult}
 
 -- The answer of a step that reads an input, and the shelf's count: it rose for a ReadFault only.
 abbrev pub HasStepCause : {A : Type 0} → ℕ → ℕ → Result A Ended → Type 0
@@ -97,8 +98,12 @@ seq_outcome job =
     outcome_of_run job.end (seq_prints job.store)
     (fields_text (count job.mesh) (value_at (run_values job.store.fields)) job.checked.fields)
 
+abbrev pub stencil_outcome : StencilJob → Outcome
+stencil_outcome job = stencils_outcome job.checked job.stencils
+
 abbrev pub job_outcome : Job → Outcome
 job_outcome (jobs.Check check) = done_with (check_job_text check)
+job_outcome (jobs.Stencil stencil) = stencil_outcome stencil
 job_outcome (jobs.Seq seq) = seq_outcome seq
 
 -- What a writer of an outcome does: all of its text is taken, and its ending is the result; or a prefix is taken.
@@ -106,11 +111,10 @@ abbrev pub WritesOutcome : Outcome → Option (List ℕ) → Option (List ℕ) �
 WritesOutcome outcome before now (Ok ended) = (ended ≡ outcome.ended) × (now ≡ append_known before outcome.text)
 WritesOutcome outcome before now (Err _) = TakesPrefix before now outcome.text
 
--- The job of `seq` on a typed program, or why there is none.
-abbrev pub MakesSeqJob : ℕ → Main → MeshLists → Result SeqJob Ended → Type 0
-MakesSeqJob turns tree mesh (Ok job) = RunsOn turns tree mesh (seq_outcome job)
-MakesSeqJob turns tree mesh (Err ended) =
-    (ended ≡ NoMemory) ⊎ ((fault : LimitFault) × (ended ≡ Limit fault) × RunsOn turns tree mesh (refusal (Limit fault)))
+-- The job of a mode on a typed program, by its outcome and by the outcomes that the mode has there; or why there is none.
+abbrev pub MakesJobOf : {J : Type 0} → (J → Outcome) → (Outcome → Type 0) → Result J Ended → Type 0
+MakesJobOf outcome_of Works (Ok job) = Works (outcome_of job)
+MakesJobOf outcome_of Works (Err ended) = (ended ≡ NoMemory) ⊎ ((fault : LimitFault) × (ended ≡ Limit fault) × Works (refusal (Limit fault)))
 
 -- A typed program on a mesh is a job with the outcome of the mode on them, or a limit refuses it. A program with a fault is refused.
 abbrev pub MakesJob : Mode → Main → MeshLists → Result Job Ended → Type 0
